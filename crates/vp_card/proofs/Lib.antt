@@ -1,0 +1,4 @@
+pub mod Hands
+pub mod Order
+pub mod RankSets
+pub mod Texts

@@ -1,0 +1,56 @@
+-- What cards, sets of ranks, hands and masks mean, over numbers.
+use Rattle.std.specs.Prelude.{◌≡◌, ℕ, ◌/◌, ◌%◌, Bool, true, cond, if◌then◌else◌, not, ◌&&◌, ◌==◌, nat_lt, List, [], ◌∷◌, length}
+use Rattle.std.specs.List.{list_all}
+use Rattle.std.specs.List.Sorted.{IsStrictlyIncreasing}
+use Rattle.std.specs.Int.{bit_at}
+
+-- the rank of a card, from 0 for a two to 12 for an ace; a joker has rank 13
+abbrev pub rank : ℕ → ℕ
+rank card = card / 4
+
+-- the suit of a card: clubs, diamonds, hearts, spades are 0 to 3
+abbrev pub suit : ℕ → ℕ
+suit card = card % 4
+
+-- a set of ranks, kept as bits, has the rank
+abbrev pub has : ℕ → ℕ → Bool
+has set rank = nat_lt rank 13 && (bit_at set rank == 1)
+
+-- bits that are a set of ranks which isn't empty
+abbrev pub is_rank_set : ℕ → Bool
+is_rank_set set = nat_lt 0 set && nat_lt set 8192
+
+-- every card is of the deck of n cards
+abbrev pub in_deck : ℕ → List ℕ → Bool
+in_deck n cards = list_all (λ card. nat_lt card n) cards
+
+-- five different cards in rising order
+pub record IsHand (cards : List ℕ) : Type 0 where
+  pub five : length cards ≡ 5
+  pub rising : IsStrictlyIncreasing cards
+  pub below : in_deck 53 cards ≡ true
+
+-- the cards at the places whose bit is set in the mask, the first place having the lowest bit
+abbrev pub held : ℕ → List ℕ → List ℕ
+held mask [] = []
+held mask (card ∷ cards) = cond (mask % 2 == 1) (card ∷ held (mask / 2) cards) (held (mask / 2) cards)
+
+-- the card is none of these
+abbrev pub absent : ℕ → List ℕ → Bool
+absent card [] = true
+absent card (other ∷ more) = not (card == other) && absent card more
+
+-- no card stands twice
+abbrev pub all_differ : List ℕ → Bool
+all_differ [] = true
+all_differ (card ∷ cards) = absent card cards && all_differ cards
+
+-- a card put into a rising row at its place
+abbrev pub place : ℕ → List ℕ → List ℕ
+place card [] = card ∷ []
+place card (other ∷ more) = if nat_lt card other then card ∷ other ∷ more else other ∷ place card more
+
+-- the cards in rising order
+unfoldable pub in_order : List ℕ → List ℕ
+in_order [] = []
+in_order (card ∷ cards) = place card (in_order cards)

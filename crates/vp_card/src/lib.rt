@@ -1,0 +1,15 @@
+//! Cards, hands of five cards and sets of ranks, with their texts.
+#![tactic(auto)]
+
+mod card;
+mod hand;
+mod rank_set;
+mod ranks;
+
+pub use card::Card;
+pub use hand::Hand;
+pub use rank_set::RankSet;
+pub use ranks::{rank_letter, rank_of};
+
+#[cfg(test)]
+mod tests;
