@@ -1,0 +1,12 @@
+pub mod Binomials
+pub mod Denominators
+pub mod Rising
+pub mod Sublists
+pub mod Decks
+pub mod Holds
+pub mod Over
+pub mod Spread
+pub mod Bridge
+pub mod Colex
+pub mod Walk
+pub mod Pascal

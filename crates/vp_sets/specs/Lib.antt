@@ -1,0 +1,4 @@
+pub mod Sets
+pub mod Draws
+pub mod Subsets
+pub mod Index
