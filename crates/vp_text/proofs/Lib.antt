@@ -1,0 +1,9 @@
+pub mod Cuts
+pub mod Spelled
+pub mod Sections
+pub mod Joined
+pub mod Rows
+pub mod Whole
+pub mod Writing
+pub mod Room
+pub mod Given

@@ -1,0 +1,68 @@
+-- The lines of a text that have words, each with its number.
+use Rattle.std.specs.Prelude.{ℕ, ◌+◌, Bool, false, ◌||◌, not, ◌==◌, List, [], ◌∷◌, length, filter, bytes_eq, if◌then◌else◌}
+use Rattle.std.specs.List.{slice_split, before_first}
+use Rattle.std.specs.Str.Lines.{strip_carriage_return}
+
+-- a word is its bytes
+abbrev pub Word : Type 0
+Word = List ℕ
+
+-- a line that has words: its number, and the words that it has left
+pub record WordLine : Type 0 where
+  pub line : ℕ
+  pub words : List Word
+
+-- a text that is read line by line: the lines that are left, one more than the number of all lines, and the number of the line that was given last (0 before the first)
+pub record Feed : Type 0 where
+  pub lines : List WordLine
+  pub past : ℕ
+  pub last : ℕ
+
+-- a space or a tab
+abbrev pub is_blank : ℕ → Bool
+is_blank byte = byte == 32 || byte == 9
+
+abbrev pub is_empty : Word → Bool
+is_empty word = length word == 0
+
+-- the words between the blanks
+abbrev pub words_in : List ℕ → List Word
+words_in text = filter (λ word. not (is_empty word)) (slice_split is_blank text)
+
+-- what a line says: without the carriage return at its end, and without its comment
+abbrev pub said : List ℕ → List ℕ
+said text = before_first (λ byte. byte == 35) (strip_carriage_return text)
+
+-- the lines between the line feeds; nothing behind the last line feed is no line
+abbrev pub lines_between : List (List ℕ) → List (List ℕ)
+lines_between [] = []
+lines_between (text ∷ []) = if is_empty text then [] else text ∷ []
+lines_between (text ∷ next ∷ more) = text ∷ lines_between (next ∷ more)
+
+abbrev pub lines_in : List ℕ → List (List ℕ)
+lines_in bytes = lines_between (slice_split (λ byte. byte == 10) bytes)
+
+-- the lines that have words; the first of all lines has this number
+abbrev pub numbered : ℕ → List (List ℕ) → List WordLine
+numbered line [] = []
+numbered line (text ∷ more) =
+    if length (words_in (said text)) == 0 then numbered (line + 1) more else record { line = line; words = words_in (said text) } ∷ numbered (line + 1) more
+
+-- a text before its first line is read
+abbrev pub feed_of : List ℕ → Feed
+feed_of bytes = record { lines = numbered 1 (lines_in bytes); past = length (lines_in bytes) + 1; last = 0 }
+
+-- the lines behind this one
+abbrev pub behind : WordLine → List WordLine → ℕ → Feed
+behind line lines past = record { lines = lines; past = past; last = line.line }
+
+-- the next word is this one
+abbrev pub next_is : Word → List Word → Bool
+next_is word [] = false
+next_is word (next ∷ more) = bytes_eq next word
+
+-- this word is the only one
+abbrev pub only_is : Word → List Word → Bool
+only_is word [] = false
+only_is word (next ∷ []) = bytes_eq next word
+only_is word (next ∷ second ∷ more) = false

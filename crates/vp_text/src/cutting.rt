@@ -1,0 +1,100 @@
+//! Where a text is cut into lines, and a line into words.
+
+ghost use Rattle.std.specs.Prelude.{◌≡◌, ◌<◌, ◌==◌, Bool, false, not, List, ◌∷◌, length, slice_index, position};
+ghost use Rattle.std.specs.List.{before_first};
+ghost use Rattle.std.specs.Str.Lines.{strip_carriage_return};
+ghost use Rattle.vp_text.specs.Lines.{is_blank, lines_in, words_in, said};
+
+fn blank(byte: u8) -> bool
+    ensures { result ≡ is_blank byte }
+{
+    byte == b' ' || byte == b'\t'
+}
+
+fn line_feed_in(bytes: &[u8]) -> Option<usize>
+    ensures { result ≡ position (λ byte. byte == 10) bytes.now }
+{
+    bytes.iter().position(|byte| *byte == b'\n')
+}
+
+fn comment_in(text: &[u8]) -> Option<usize>
+    ensures { result ≡ position (λ byte. byte == 35) text.now }
+{
+    text.iter().position(|byte| *byte == b'#')
+}
+
+fn blank_in(text: &[u8]) -> Option<usize>
+    ensures { result ≡ position is_blank text.now }
+{
+    text.iter().position(|byte| blank(*byte))
+}
+
+fn word_in(text: &[u8]) -> Option<usize>
+    ensures { result ≡ position (λ byte. not (is_blank byte)) text.now }
+{
+    text.iter().position(|byte| !blank(*byte))
+}
+
+/// The first line, and what is behind its line feed.
+pub fn cut_line(bytes: &[u8]) -> (&[u8], &[u8])
+    requires { 0 < length bytes.now }
+    ensures cut { lines_in bytes.now ≡ result.0.now ∷ lines_in result.1.now }
+    ensures shorter { length result.1.now < length bytes.now }
+{
+    match line_feed_in(bytes) {
+        Some(end) => {
+            let (line, rest) = bytes.split_at(end);
+            let (_, rest) = rest.split_at(1);
+            (line, rest)
+        }
+        None => bytes.split_at(bytes.len()),
+    }
+}
+
+fn without_return(text: &[u8]) -> &[u8]
+    ensures { result.now ≡ strip_carriage_return text.now }
+{
+    match text {
+        [front @ .., b'\r'] => front,
+        _ => text,
+    }
+}
+
+fn without_comment(text: &[u8]) -> &[u8]
+    ensures { result.now ≡ before_first (λ byte. byte == 35) text.now }
+{
+    match comment_in(text) {
+        Some(end) => text.split_at(end).0,
+        None => text,
+    }
+}
+
+/// What a line says: without its carriage return and its comment.
+pub fn what_is_said(text: &[u8]) -> &[u8]
+    ensures { result.now ≡ said text.now }
+{
+    without_comment(without_return(text))
+}
+
+/// The text from its first word on.
+pub fn from_word(text: &[u8]) -> &[u8]
+    ensures same { words_in result.now ≡ words_in text.now }
+    ensures starts { 0 < length result.now → is_blank (slice_index result.now 0) ≡ false }
+{
+    match word_in(text) {
+        Some(start) => text.split_at(start).1,
+        None => text.split_at(text.len()).1,
+    }
+}
+
+/// The first word, and what is behind it.
+pub fn cut_word(text: &[u8]) -> (&[u8], &[u8])
+    requires some { 0 < length text.now }
+    requires starts { is_blank (slice_index text.now 0) ≡ false }
+    ensures { words_in text.now ≡ result.0.now ∷ words_in result.1.now }
+{
+    match blank_in(text) {
+        Some(end) => text.split_at(end),
+        None => text.split_at(text.len()),
+    }
+}

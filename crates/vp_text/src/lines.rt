@@ -1,0 +1,165 @@
+//! The lines of a text that have words, and the words of a line.
+
+ghost use Rattle.std.specs.Prelude.{◌≡◌, ◌+◌, ◌<◌, ◌≤◌, List, [], ◌∷◌, length, MatchOption, IfSome};
+ghost use Rattle.vp_text.specs.Lines.{lines_in, words_in, said, behind, feed_of, next_is, only_is};
+
+use crate::cutting::{cut_line, cut_word, from_word, what_is_said};
+use std::marker::Model;
+
+/// The words of one line that are left, from left to right.
+#[derive(Drop)]
+pub struct Words<'a> {
+    line: u32,
+    rest: &'a [u8],
+}
+
+impl<'a> Model for Words<'a> {
+    ghost use Rattle.vp_text.specs.Lines.{WordLine, words_in};
+
+    ghost Value = { WordLine };
+
+    ghost view = { λ w. record { line = w.line; words = words_in w.rest.now } };
+}
+
+/// The lines of a text that are left. Lines are counted from 1, also those without words.
+#[derive(Drop)]
+pub struct Lines<'a> {
+    rest: &'a [u8],
+    count: u32,
+    last: u32,
+}
+
+impl<'a> Model for Lines<'a> {
+    ghost use Rattle.std.specs.Prelude.{◌+◌, ◌≤◌, length};
+    ghost use Rattle.vp_text.specs.Lines.{Feed, lines_in, numbered};
+
+    ghost Value = { Feed };
+
+    ghost view = { λ l. record {
+      lines = numbered (l.count + 1) (lines_in l.rest.now);
+      past = length (lines_in l.rest.now) + l.count + 1;
+      last = l.last;
+    } };
+
+    ghost invariant = { λ l. l.count + length l.rest.now ≤ 67108864 };
+}
+
+impl<'a> Words<'a> {
+    /// The number of the line in the text.
+    pub fn line(&self) -> u32
+        ensures { result ≡ self.now.line }
+    {
+        self.line
+    }
+
+    /// The next word of the line.
+    pub fn next(&mut self) -> Option<&'a [u8]>
+        ensures line { self.new.line ≡ self.old.line }
+        // Exactly where no word is left there is none, and nothing changes.
+        ensures next { MatchOption result ((self.old.words ≡ []) × (self.new ≡ self.old)) (λ word. self.old.words ≡ word.now ∷ self.new.words) }
+    {
+        let text = from_word(self.rest);
+        if text.is_empty() {
+            return None;
+        }
+        let (word, rest) = cut_word(text);
+        self.rest = rest;
+        Some(word)
+    }
+
+    /// Looks ahead: the next word is this one.
+    pub fn next_is(&self, word: &[u8]) -> bool
+        ensures { result ≡ next_is word.now self.now.words }
+    {
+        let mut ahead = Words {
+            line: self.line,
+            rest: self.rest,
+        };
+        match ahead.next() {
+            Some(next) => next == word,
+            None => false,
+        }
+    }
+
+    /// Looks ahead: this word is the only one that is left.
+    pub fn only_is(&self, word: &[u8]) -> bool
+        ensures { result ≡ only_is word.now self.now.words }
+    {
+        let mut ahead = Words {
+            line: self.line,
+            rest: self.rest,
+        };
+        match ahead.next() {
+            Some(next) => next == word && ahead.next().is_none(),
+            None => false,
+        }
+    }
+}
+
+impl<'a> Lines<'a> {
+    /// The lines of a text of at most 64 MiB.
+    pub fn new(bytes: &'a [u8]) -> Lines<'a>
+        requires { length bytes.now ≤ 67108864 }
+        ensures { result ≡ feed_of bytes.now }
+    {
+        Lines {
+            rest: bytes,
+            count: 0,
+            last: 0,
+        }
+    }
+
+    /// The next line that has words.
+    pub fn next(&mut self) -> Option<Words<'a>>
+        ensures past { self.new.past ≡ self.old.past }
+        // Exactly where no line with words is left there is none, and nothing changes.
+        ensures next { MatchOption result ((self.old.lines ≡ []) × (self.new ≡ self.old))
+            (λ words. (self.old.lines ≡ words ∷ self.new.lines) × (self.new.last ≡ words.line)) }
+    {
+        while !self.rest.is_empty() {
+            let (line, rest) = cut_line(self.rest);
+            let text = from_word(what_is_said(line));
+            self.rest = rest;
+            self.count += 1;
+            if !text.is_empty() {
+                self.last = self.count;
+                return Some(Words {
+                    line: self.count,
+                    rest: text,
+                });
+            }
+        }
+        None
+    }
+
+    /// One more than the number of lines of the text.
+    pub fn past(&self) -> u32
+        ensures { result ≡ self.now.past }
+    {
+        let mut rest = self.rest;
+        let mut count = self.count;
+        while !rest.is_empty() {
+            rest = cut_line(rest).1;
+            count += 1;
+        }
+        count + 1
+    }
+
+    /// The number of the line that was given last, and 0 before the first.
+    pub fn last(&self) -> u32
+        ensures { result ≡ self.now.last }
+    {
+        self.last
+    }
+
+    /// A reader of the same lines, to look ahead with.
+    pub fn again(&self) -> Lines<'a>
+        ensures { result ≡ self.now }
+    {
+        Lines {
+            rest: self.rest,
+            count: self.count,
+            last: self.last,
+        }
+    }
+}
