@@ -1,0 +1,15 @@
+-- What was taken so far is the front of the bytes, and what is left is the rest.
+use Rattle.std.proofs.Common.{◌≡◌, ℕ, ◌≤◌, length, take, drop}
+use Rattle.std.specs.Io.KnownBytes.{Appends}
+use Rattle.vp_io.proofs.whole.put.Given as goal
+
+abbrev pub invariant-loop-rest : goal.invariant-loop-rest
+invariant-loop-rest g l =
+    (n : ℕ)
+    × (n ≤ length l.bytes)
+    × (l.rest ≡ drop n l.bytes)
+    × Appends (g.K.Sink.taken l.initial.sink) (g.K.Sink.taken l.sink) (take n l.bytes)
+    × (g.K.Sink.faults l.sink ≡ g.K.Sink.faults l.initial.sink)
+
+abbrev pub decreases-loop-rest : goal.decreases-loop-rest
+decreases-loop-rest g l = length l.rest

@@ -1,0 +1,13 @@
+-- The bytes are all that the source gave so far, and no read has failed.
+use Rattle.std.proofs.Common.{◌≡◌, ◌-◌, ◌≤◌, length}
+use Rattle.std.specs.Io.KnownBytes.{Consumes}
+use Rattle.vp_io.proofs.whole.read_all.Given as goal
+
+abbrev pub invariant-loop-block : goal.invariant-loop-block
+invariant-loop-block g l =
+    Consumes (g.S.Source.left l.initial.source) (g.S.Source.left l.source) l.bytes.items
+    × (length l.bytes.items ≤ 67108865)
+    × (g.S.Source.faults l.source ≡ g.S.Source.faults l.initial.source)
+
+abbrev pub decreases-loop-block : goal.decreases-loop-block
+decreases-loop-block g l = 67108865 - length l.bytes.items

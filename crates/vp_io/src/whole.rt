@@ -1,0 +1,80 @@
+// Whole texts: all bytes of a source, and a text put to a sink.
+ghost use Rattle.std.specs.Prelude.{◌≡◌, ◌⊎◌, ◌+◌, ◌-◌, ◌≤◌, ◌++◌, ℕ, List, length, IfOk, OnOk, OnErr, IsErrOf};
+ghost use Rattle.std.specs.Io.KnownBytes.{Appends, Consumes, IsAtEnd};
+ghost use Rattle.vp_io.specs.Causes.{Rose, HasCause};
+ghost use Rattle.vp_io.specs.Streams.{Gave, GaveUpTo, GaveAll, TookPart};
+
+use crate::{Failed, ReadStop, Sink, Source, WriteFault};
+use std::alloc::Global;
+
+/// The most bytes that an input may have: 64 MiB.
+pub const LIMIT: usize = 67_108_864;
+
+/// The most bytes that one read asks for.
+const BLOCK: usize = 65_536;
+
+/// All bytes of the source up to the end of input. After a refusal the bytes that were read are gone.
+pub fn read_all<S: Source>(alloc: Global, source: &mut S) -> Result<Vec<u8>, ReadStop>
+    ensures all { IfOk result (λ bytes. GaveAll (S.left source.old) (S.left source.new) bytes.items) }
+    ensures within { IfOk result (λ bytes. length bytes.items ≤ LIMIT) }
+    ensures fault { IsErrOf result ReadStop.ReadFault → Rose (S.faults source.old) (S.faults source.new) }
+    ensures long { IsErrOf result ReadStop.TooLong → Gave (S.left source.old) (S.left source.new) 67108865 }
+    ensures gone { OnErr result (GaveUpTo (S.left source.old) (S.left source.new) 67108865) }
+    // The count of faults changes only where the answer is a read fault, and never falls.
+    ensures count { IsErrOf result ReadStop.ReadFault ⊎ (S.faults source.new ≡ S.faults source.old) }
+    ensures later { S.faults source.old ≤ S.faults source.new }
+{
+    let mut bytes = Vec::new(alloc);
+    let mut block = [0; BLOCK];
+    while bytes.len() <= LIMIT {
+        if read_more(source, &mut block, &mut bytes)? == 0 {
+            return Ok(bytes);
+        }
+    }
+    Err(ReadStop::TooLong)
+}
+
+/// One read, whose bytes are appended: how many there were. It asks for no more than one byte above the limit.
+fn read_more<S: Source>(
+    source: &mut S,
+    block: &mut [u8; BLOCK],
+    bytes: &mut Vec<u8>,
+) -> Result<usize, ReadStop>
+    requires { length bytes.old.items ≤ LIMIT }
+    ensures more { IfOk result (λ n. (fresh : List ℕ) × (bytes.new.items ≡ bytes.old.items ++ fresh) × (length fresh ≡ n)
+        × Consumes (S.left source.old) (S.left source.new) fresh) }
+    ensures room { OnOk result (length bytes.new.items ≤ LIMIT + 1) }
+    ensures end { IfOk result (λ n. n ≡ 0 → IsAtEnd (S.left source.new)) }
+    ensures fault { IsErrOf result ReadStop.ReadFault → Rose (S.faults source.old) (S.faults source.new) }
+    ensures not_long { IsErrOf result ReadStop.TooLong → ⊥ }
+    ensures gone { OnErr result (GaveUpTo (S.left source.old) (S.left source.new) (67108865 - length bytes.old.items)) }
+    ensures ok { OnOk result (S.faults source.new ≡ S.faults source.old) }
+    ensures count { IsErrOf result ReadStop.ReadFault ⊎ (S.faults source.new ≡ S.faults source.old) }
+    ensures later { S.faults source.old ≤ S.faults source.new }
+{
+    let room = BLOCK.min(LIMIT + 1 - bytes.len());
+    let count = match source.read(&mut block[..room]) {
+        Ok(count) => count,
+        Err(Failed) => return Err(ReadStop::ReadFault),
+    };
+    match bytes.extend_from_slice(&block[..count]) {
+        Ok(()) => Ok(count),
+        Err(_) => Err(ReadStop::NoMemory),
+    }
+}
+
+/// Puts the bytes to the sink, in order. It asks again until all are taken.
+pub fn put<K: Sink>(sink: &mut K, bytes: &[u8]) -> Result<(), WriteFault>
+    ensures all { OnOk result (Appends (K.taken sink.old) (K.taken sink.new) bytes.now) }
+    ensures part { OnErr result (TookPart (K.taken sink.old) (K.taken sink.new) bytes.now) }
+    ensures cause { HasCause (K.faults sink.old) (K.faults sink.new) result }
+{
+    let mut rest = bytes;
+    while !rest.is_empty() {
+        match sink.write(rest) {
+            Ok(count) => rest = &rest[count..],
+            Err(Failed) => return Err(WriteFault),
+        }
+    }
+    Ok(())
+}
