@@ -1,0 +1,11 @@
+pub mod BuiltIns
+pub mod Columns
+pub mod Deals
+pub mod Numbers
+pub mod Patterns
+pub mod PayLines
+pub mod Pieces
+pub mod Plain
+pub mod Puts
+pub mod Tables
+pub mod Values

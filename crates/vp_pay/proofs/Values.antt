@@ -1,0 +1,137 @@
+-- Words that are one value each.
+use Rattle.std.proofs.Common.{◌≡◌, ℕ, ◌-◌, ◌+◌, ◌<◌, ◌≤◌, Bool, true, false, nat_le, ◌&&◌, [], ◌∷◌, refl, ap, sym, ◌∙◌, arith, Some, None, IfSome, get_or, ⊎_elim, eqb, ◌≢◌}
+use Rattle.std.specs.Prelude.{Option, option_map, bytes_eq, codes}
+use Rattle.std.specs.Fmt.{decimal, digits}
+use Rattle.std.proofs.lemmas.Fmt.{decimal_digit}
+use Rattle.std.proofs.lemmas.Bool.Decides.{nat_tests, eqb_tells}
+use Rattle.vp_card.specs.Cards.{is_rank_set}
+use Rattle.vp_card.specs.Texts.{rank_set_text, rank_letters}
+use Rattle.vp_card.specs.Reading.{rank_of, rank_set_of}
+use Rattle.vp_card.proofs.RankSets.{rank_set_of-text, text-rank_set_of}
+use Rattle.vp_card.proofs.Texts.{rank_of-letter, rank_of-again}
+use Rattle.vp_text.specs.Lines.{Word}
+use Rattle.vp_pay.specs.declared.pattern.Pattern.{Pattern}
+use Rattle.vp_pay.specs.declared.pattern.Pattern.TheVariants.{Royal, StraightFlush, FullHouse, Flush, Straight, Trips, TwoPair}
+use Rattle.vp_pay.specs.declared.pattern.Qualifier.{Qualifier}
+use Rattle.vp_pay.specs.declared.pattern.Qualifier.TheVariants.{Either, Natural, Wild}
+use Rattle.vp_pay.specs.Names.{is_name}
+use Rattle.vp_pay.specs.Pieces.{ExactWord}
+use Rattle.vp_pay.specs.Spelling.{qualifier_word, wild_word, pattern_words}
+use Rattle.vp_pay.specs.Reading.{name_of, deck_of, one_to_five, letter_of_rank, wild_of, qualifier_of, plain_of}
+use Rattle.vp_pay.specs.Table.{is_pattern}
+use Rattle.vp_pay.proofs.Pieces.{by_key, chosen, same_value, no_value}
+
+pub Exact-rank_set : ExactWord rank_set_text (λ set. is_rank_set set ≡ true) rank_set_of
+Exact-rank_set = record { takes = λ text set read. text-rank_set_of text set read; again = λ set is_set. rank_set_of-text set is_set }
+
+pub Exact-name : ExactWord (λ (name : Word). name) (λ name. is_name name ≡ true) name_of
+unfolding name_of
+Exact-name = record {
+  takes = λ text name read. chosen (λ n. (is_name n ≡ true) × (n ≡ text)) (is_name text) (Some text) None name read
+      (λ is e. let same : text ≡ name = same_value text name e in rw (← same) (is, refl)) (λ e. absurd (no_value name e));
+  again = λ name is. rw is;
+}
+
+pub Exact-deck : ExactWord decimal (λ deck. (52 ≤ deck) × (deck ≤ 53)) deck_of
+unfolding deck_of digits
+Exact-deck = record {
+  takes = λ text deck read.
+      by_key (λ d. ((52 ≤ d) × (d ≤ 53)) × (decimal d ≡ text)) text (codes "52") 52 _ deck read (λ is. ((omega arith, omega arith), sym is)) (λ more.
+      by_key (λ d. ((52 ≤ d) × (d ≤ 53)) × (decimal d ≡ text)) text (codes "53") 53 _ deck more (λ is. ((omega arith, omega arith), sym is)) (λ none. absurd (no_value deck none)));
+  again = λ deck is. ⊎_elim (λ (t : (eqb deck 52 ≡ true) × (deck ≡ 52)). rw t.1) (λ (t : (eqb deck 52 ≡ false) × (deck ≢ 52)). let e : deck ≡ 53 = omega arith in rw e) (eqb_tells deck 52);
+}
+
+-- ---- a digit from 1 to 5
+
+digit_read : (text : Word) (n : ℕ) → one_to_five text ≡ Some n → ((1 ≤ n) × (n ≤ 5)) × (decimal n ≡ text)
+unfolding one_to_five
+digit_read [] n read = absurd (no_value n read)
+digit_read (digit ∷ []) n read =
+    chosen (λ m. ((1 ≤ m) × (m ≤ 5)) × (decimal m ≡ digit ∷ [])) (nat_le 49 digit && nat_le digit 53) (Some (digit - 48)) None n read
+    (λ is e.
+    let low : 49 ≤ digit = grind (arith, nat_tests)
+    in let high : digit ≤ 53 = grind (arith, nat_tests)
+    in let same : digit - 48 ≡ n = cc
+    in let back : 48 + n ≡ digit = omega arith
+    in ((omega arith, omega arith), decimal_digit n (omega arith) ∙ ap (λ d. d ∷ []) back))
+    (λ none. absurd (no_value n none))
+digit_read (digit ∷ other ∷ more) n read = absurd (no_value n read)
+
+digit_again : (n : ℕ) → 1 ≤ n → n ≤ 5 → one_to_five ((48 + n) ∷ []) ≡ Some n
+unfolding one_to_five
+digit_again n low high =
+    let test : (nat_le 49 (48 + n) && nat_le (48 + n) 53) ≡ true = grind (arith, nat_tests)
+    in rw test (ap Some (omega arith))
+
+pub Exact-one_to_five : ExactWord decimal (λ n. (1 ≤ n) × (n ≤ 5)) one_to_five
+Exact-one_to_five = record {
+  takes = λ text n read. digit_read text n read;
+  again = λ n is. ap one_to_five (decimal_digit n (omega arith)) ∙ digit_again n is.0 is.1;
+}
+
+-- ---- the wild rank
+
+letter_read : (text : Word) (wild : Option ℕ) → letter_of_rank text ≡ Some wild → IfSome wild (λ rank. rank < 13) × (wild_word wild ≡ text)
+letter_read [] wild read = absurd (no_value wild read)
+letter_read (letter ∷ []) wild read = ranked (rank_of letter) refl read
+  where
+    ranked : (o : Option ℕ) → rank_of letter ≡ o → option_map Some o ≡ Some wild → IfSome wild (λ rank. rank < 13) × (wild_word wild ≡ letter ∷ [])
+    ranked None is e = absurd (no_value wild e)
+    ranked (Some rank) is e =
+        let t = rank_of-letter letter rank is
+        in let same : Some rank ≡ wild = same_value (Some rank) wild e
+        in rw (← same) (t.0, ap (λ l. l ∷ []) t.1)
+letter_read (letter ∷ other ∷ more) wild read = absurd (no_value wild read)
+
+none_no_letter : (rank : ℕ) → bytes_eq (get_or rank_letters rank 0 ∷ []) (codes "none") ≡ false
+none_no_letter rank = and_false (eqb (get_or rank_letters rank 0) 110)
+  where
+    and_false : (b : Bool) → (b && false) ≡ false
+    and_false true = refl
+    and_false false = refl
+
+wild_again : (wild : Option ℕ) → IfSome wild (λ rank. rank < 13) → wild_of (wild_word wild) ≡ Some wild
+unfolding wild_of
+wild_again None is = refl
+wild_again (Some rank) is = rw (none_no_letter rank, rank_of-again rank is)
+
+pub Exact-wild : ExactWord wild_word (λ wild. IfSome wild (λ rank. rank < 13)) wild_of
+unfolding wild_of
+Exact-wild = record {
+  takes = λ text wild read.
+      by_key (λ w. IfSome w (λ rank. rank < 13) × (wild_word w ≡ text)) text (codes "none") None _ wild read (λ is. (tt, sym is)) (λ letter. letter_read text wild letter);
+  again = wild_again;
+}
+
+-- ---- qualifiers
+
+qualifier_again : (q : Qualifier) → qualifier_of (qualifier_word q) ≡ Some q
+unfolding qualifier_of
+qualifier_again Either = refl
+qualifier_again Natural = refl
+qualifier_again Wild = refl
+
+pub Exact-qualifier : ExactWord qualifier_word (λ q. Unit {0}) qualifier_of
+unfolding qualifier_of
+Exact-qualifier = record {
+  takes = λ text q read.
+      let P : Qualifier → Type 0 = λ q. Unit {0} × (qualifier_word q ≡ text) in
+      by_key P text (codes "either") Either _ q read (λ is. (tt, sym is)) (λ more.
+      by_key P text (codes "natural") Natural _ q more (λ is. (tt, sym is)) (λ last.
+      by_key P text (codes "wild") Wild _ q last (λ is. (tt, sym is)) (λ none. absurd (no_value q none))));
+  again = λ q is. qualifier_again q;
+}
+
+-- a plain pattern has one word
+pub plain_word : (text : Word) (pattern : Pattern) → plain_of text ≡ Some pattern → (is_pattern pattern ≡ true) × (pattern_words pattern ≡ text ∷ [])
+unfolding plain_of
+plain_word text pattern read =
+    let P : Pattern → Type 0 = λ p. (is_pattern p ≡ true) × (pattern_words p ≡ text ∷ [])
+    in let alone : (key : Word) → text ≡ key → key ∷ [] ≡ text ∷ [] = λ key is. ap (λ (w : Word). w ∷ []) (sym is) in
+    by_key P text (codes "royal") Royal _ pattern read (λ is. (refl, alone _ is)) (λ m1.
+    by_key P text (codes "straight-flush") StraightFlush _ pattern m1 (λ is. (refl, alone _ is)) (λ m2.
+    by_key P text (codes "full-house") FullHouse _ pattern m2 (λ is. (refl, alone _ is)) (λ m3.
+    by_key P text (codes "flush") Flush _ pattern m3 (λ is. (refl, alone _ is)) (λ m4.
+    by_key P text (codes "straight") Straight _ pattern m4 (λ is. (refl, alone _ is)) (λ m5.
+    by_key P text (codes "trips") Trips _ pattern m5 (λ is. (refl, alone _ is)) (λ m6.
+    by_key P text (codes "two-pair") TwoPair _ pattern m6 (λ is. (refl, alone _ is)) (λ none. absurd (no_value pattern none))))))))

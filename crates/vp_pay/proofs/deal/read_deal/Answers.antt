@@ -1,0 +1,11 @@
+use Rattle.vp_pay.proofs.Deals.{found_deal, refused_deal, only_deal}
+use Rattle.vp_pay.proofs.deal.read_deal.Goals as goal
+
+pub returns-clause-found : goal.returns-clause-found
+returns-clause-found c = found_deal _ _ _ _ c.requires.least c.requires.most c.hand_at.ensures
+
+pub returns-clause-only : goal.returns-clause-only
+returns-clause-only c = only_deal _ _ _ _ c.requires.least c.requires.most c.hand_at.ensures
+
+pub returns-clause-refused : goal.returns-clause-refused
+returns-clause-refused c = refused_deal _ _ _ _ c.requires.least c.requires.most c.hand_at.ensures

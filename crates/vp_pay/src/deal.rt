@@ -1,0 +1,82 @@
+//! The deal line: five different cards of the deck, in any order.
+
+ghost use Rattle.std.specs.Prelude.{◌≡◌, ℕ, ◌≤◌, List, Ok, IfOk, IfErr};
+ghost use Rattle.vp_card.specs.Cards.{in_deck, in_order};
+ghost use Rattle.vp_card.specs.Reading.{card_of};
+ghost use Rattle.vp_text.specs.Lines.{Feed};
+ghost use Rattle.vp_text.specs.Sections.{Starts, Refuses};
+ghost use Rattle.vp_text.specs.Reading.{Gives};
+ghost use Rattle.vp_pay.specs.Pieces.{Takes, one_word, so_many};
+ghost use Rattle.vp_pay.specs.Reading.{hand_of};
+ghost use Rattle.vp_pay.specs.Sections.{hand_at};
+ghost use Rattle.vp_pay.specs.Spelling.{deal_text};
+ghost use Rattle.vp_pay.specs.Deal.{IsDeal, IsDealt};
+
+use crate::pay_line::key_word;
+use vp_card::{Card, Hand};
+use vp_text::{Lines, Refused, Words};
+
+fn card(words: &mut Words) -> Option<Card>
+    ensures { Takes (λ c. c) result words.new.words (one_word card_of words.old.words) }
+{
+    let word = words.next()?;
+    Card::read(word)
+}
+
+fn five_cards(words: &mut Words) -> Option<[Card; 5]>
+    ensures { Takes (λ cards. cards) result words.new.words (so_many card_of 5 words.old.words) }
+{
+    let first = card(words)?;
+    let second = card(words)?;
+    let third = card(words)?;
+    let fourth = card(words)?;
+    let fifth = card(words)?;
+    Some([first, second, third, fourth, fifth])
+}
+
+fn in_deck(deck: u8, cards: &[Card]) -> bool
+    ensures { result ≡ in_deck deck cards.now }
+{
+    cards.iter().all(|card| card.number() < deck)
+}
+
+#[tactic(auto, unfolding(crate::specs::Reading::hand_of, crate::specs::Reading::deal_of))]
+fn hand_of(words: &mut Words, deck: u8) -> Option<Hand>
+    ensures { result ≡ hand_of deck words.old.words }
+{
+    key_word(words, b"deal")?;
+    let cards = five_cards(words)?;
+    if words.next().is_some() || !in_deck(deck, &cards) {
+        return None;
+    }
+    Hand::of(cards)
+}
+
+#[tactic(auto, unfolding(crate::specs::Sections::hand_at))]
+fn hand_at(lines: &mut Lines, deck: u8) -> Result<Hand, Refused>
+    ensures { Gives (λ h. h) result lines.new (hand_at deck lines.old) }
+{
+    let Some(mut words) = lines.next() else {
+        return Err(Refused { line: lines.past() });
+    };
+    let line = words.line();
+    match hand_of(&mut words, deck) {
+        Some(hand) => Ok(hand),
+        None => Err(Refused { line }),
+    }
+}
+
+/// Reads a deal line of five different cards of a deck of so many, in any order.
+pub fn read_deal(lines: &mut Lines, deck: u8) -> Result<Hand, Refused>
+    requires least { 5 ≤ deck }
+    requires most { deck ≤ 53 }
+    // What is read is a deal's hand, and the deal's spelling stands in front of the lines that are left.
+    ensures found { IfOk result (λ hand. IsDealt deck lines.old hand lines.new) }
+    // A deal that is spelled so is read, whatever follows.
+    ensures only { (cards : List ℕ) (left : Feed) → IsDeal deck cards → Starts deal_text lines.old cards left → (result ≡ Ok (in_order cards)) × (lines.new ≡ left) }
+    // Refused is the line where it begins no deal line, or the one past the end where there is none.
+    ensures refused { IfErr result (λ e. Refuses deal_text (IsDeal deck) lines.old e.line) }
+    ensures exact { Gives (λ hand. hand) result lines.new (hand_at deck lines.old) }
+{
+    hand_at(lines, deck)
+}

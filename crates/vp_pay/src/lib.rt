@@ -1,0 +1,20 @@
+//! Pay tables and the language that they are written in.
+#![tactic(auto)]
+
+mod built_in;
+mod deal;
+mod name;
+mod pattern;
+mod pay_line;
+mod reading;
+mod table;
+mod words;
+mod writing;
+
+pub use deal::read_deal;
+pub use name::Name;
+pub use pattern::{Pattern, Qualifier};
+pub use table::{PayLine, PayTable};
+
+#[cfg(test)]
+mod tests;

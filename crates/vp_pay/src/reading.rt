@@ -1,0 +1,197 @@
+//! The sections of pay tables and of deals, read line by line.
+
+ghost use Rattle.std.specs.Prelude.{◌≡◌, ◌<◌, ◌≤◌, codes, ◌++◌, Some, Ok, IfOk, IfErr, IfSome, length};
+ghost use Rattle.vp_text.specs.Reading.{Gives, one_line};
+ghost use Rattle.vp_text.specs.Lines.{Feed};
+ghost use Rattle.vp_text.specs.Sections.{Text, Starts, Refuses};
+ghost use Rattle.vp_pay.specs.Pieces.{keyed};
+ghost use Rattle.vp_pay.specs.Reading.{name_of, deck_of, wild_of, one_to_five, next_line_of, has_name};
+ghost use Rattle.vp_pay.specs.Sections.{name_line, deck_line, wild_line, coins_line, pay_lines, table_at};
+ghost use Rattle.vp_pay.specs.Spelling.{table_text};
+ghost use Rattle.vp_pay.specs.Table.{IsTable};
+ghost use Rattle.vp_pay.specs.declared.table.PayTable.{PayTable};
+
+use crate::pay_line::{key_word, name, pay_line_of};
+use crate::words::{deck_of, one_to_five, wild_of};
+use crate::{Name, PayLine, PayTable};
+use arrayvec::ArrayVec;
+use vp_text::{Lines, Refused, Words};
+
+fn table_name(words: &mut Words) -> Option<Name>
+    ensures { result ≡ keyed (codes "table") name_of words.old.words }
+{
+    key_word(words, b"table")?;
+    let name = name(words)?;
+    if words.next().is_some() {
+        return None;
+    }
+    Some(name)
+}
+
+fn name_line(lines: &mut Lines) -> Result<Name, Refused>
+    ensures { Gives (λ n. n) result lines.new (name_line lines.old) }
+{
+    let Some(mut words) = lines.next() else {
+        return Err(Refused { line: lines.past() });
+    };
+    let line = words.line();
+    match table_name(&mut words) {
+        Some(name) => Ok(name),
+        None => Err(Refused { line }),
+    }
+}
+
+fn deck(words: &mut Words) -> Option<u8>
+    ensures { result ≡ keyed (codes "deck") deck_of words.old.words }
+{
+    key_word(words, b"deck")?;
+    let value = deck_of(words.next()?)?;
+    if words.next().is_some() {
+        return None;
+    }
+    Some(value)
+}
+
+fn deck_line(lines: &mut Lines) -> Result<u8, Refused>
+    ensures { Gives (λ v. v) result lines.new (deck_line lines.old) }
+{
+    let Some(mut words) = lines.next() else {
+        return Err(Refused { line: lines.past() });
+    };
+    let line = words.line();
+    match deck(&mut words) {
+        Some(value) => Ok(value),
+        None => Err(Refused { line }),
+    }
+}
+
+fn wild(words: &mut Words) -> Option<Option<u8>>
+    ensures { result ≡ keyed (codes "wild") wild_of words.old.words }
+{
+    key_word(words, b"wild")?;
+    let value = wild_of(words.next()?)?;
+    if words.next().is_some() {
+        return None;
+    }
+    Some(value)
+}
+
+fn wild_line(lines: &mut Lines) -> Result<Option<u8>, Refused>
+    ensures { Gives (λ v. v) result lines.new (wild_line lines.old) }
+{
+    let Some(mut words) = lines.next() else {
+        return Err(Refused { line: lines.past() });
+    };
+    let line = words.line();
+    match wild(&mut words) {
+        Some(value) => Ok(value),
+        None => Err(Refused { line }),
+    }
+}
+
+fn coins(words: &mut Words) -> Option<u8>
+    ensures read { result ≡ keyed (codes "coins") one_to_five words.old.words }
+    ensures range { IfSome result (λ coins. coins ≤ 5) }
+{
+    key_word(words, b"coins")?;
+    let value = one_to_five(words.next()?)?;
+    if words.next().is_some() {
+        return None;
+    }
+    Some(value)
+}
+
+fn coins_line(lines: &mut Lines) -> Result<u8, Refused>
+    ensures read { Gives (λ v. v) result lines.new (coins_line lines.old) }
+    ensures range { IfOk result (λ coins. coins ≤ 5) }
+{
+    let Some(mut words) = lines.next() else {
+        return Err(Refused { line: lines.past() });
+    };
+    let line = words.line();
+    match coins(&mut words) {
+        Some(value) => Ok(value),
+        None => Err(Refused { line }),
+    }
+}
+
+/// Whether one of the lines has the name.
+fn has_name(lines: &[PayLine], name: &Name) -> bool
+    ensures { result ≡ has_name lines.now name.now }
+{
+    lines.iter().any(|line| line.name == *name)
+}
+
+/// The pay line that these words spell behind these lines: it has a new name, and there is room for it.
+#[tactic(auto, unfolding(crate::specs::Reading::next_line_of))]
+fn next_line(words: &mut Words, coins: u8, lines: &[PayLine]) -> Option<PayLine>
+    requires { coins ≤ 5 }
+    ensures read { result ≡ next_line_of coins lines.now words.old.words }
+    ensures room { IfSome result (λ line. length lines.now < 32) }
+{
+    let line = pay_line_of(words, coins)?;
+    if lines.len() < 32 && !has_name(lines, &line.name) {
+        Some(line)
+    } else {
+        None
+    }
+}
+
+fn pay_lines(lines: &mut Lines, coins: u8) -> Result<ArrayVec<PayLine, 32>, Refused>
+    requires { coins ≤ 5 }
+    ensures { Gives (λ ls. ls.items) result lines.new (pay_lines coins lines.old) }
+{
+    let mut pay_lines = ArrayVec::new();
+    while let Some(mut words) = lines.next() {
+        let line = words.line();
+        if words.only_is(b"end") {
+            if pay_lines.is_empty() {
+                return Err(Refused { line });
+            }
+            return Ok(pay_lines);
+        }
+        let Some(next) = next_line(&mut words, coins, &pay_lines) else {
+            return Err(Refused { line });
+        };
+        pay_lines.push(next);
+    }
+    Err(Refused { line: lines.past() })
+}
+
+#[tactic(auto, unfolding(crate::specs::Sections::table_at))]
+fn table_at(lines: &mut Lines) -> Result<PayTable, Refused>
+    ensures { Gives (λ t. t) result lines.new (table_at lines.old) }
+{
+    let name = name_line(lines)?;
+    let deck = deck_line(lines)?;
+    let wild = wild_line(lines)?;
+    let coins = coins_line(lines)?;
+    let lines = pay_lines(lines, coins)?;
+    Ok(PayTable {
+        name,
+        deck,
+        wild,
+        coins,
+        lines,
+    })
+}
+
+impl PayTable {
+    /// Reads one table section, up to its `end`, and leaves the lines behind it.
+    pub fn read(lines: &mut Lines) -> Result<PayTable, Refused>
+        // What is read keeps the rules, and its spelling stands in front of the lines that are left.
+        ensures found { IfOk result (λ t. IsTable t × Starts table_text lines.old t lines.new) }
+        // What is spelled so is read, whatever follows.
+        ensures only { (t : PayTable) (left : Feed) → IsTable t → Starts table_text lines.old t left → (result ≡ Ok t) × (lines.new ≡ left) }
+        // Refused is the first line with which the lines so far begin no table, or the one past the end where the input ends first.
+        ensures refused { IfErr result (λ e. Refuses table_text IsTable lines.old e.line) }
+        ensures exact { Gives (λ t. t) result lines.new (table_at lines.old) }
+    {
+        table_at(lines)
+    }
+}
+
+/// Different tables have different spellings, and no spelling begins another one.
+pub fn table_spellings_differ()
+    ensures { (a b : PayTable) (x y : Text) → IsTable a → IsTable b → table_text a ++ x ≡ table_text b ++ y → (a ≡ b) × (x ≡ y) }
+{}

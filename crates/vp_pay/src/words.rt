@@ -1,0 +1,108 @@
+//! Words of a pay table that are one value each.
+
+ghost use Rattle.std.specs.Prelude.{◌≡◌, ◌≤◌, IfSome, ◌<◌, option_map};
+ghost use Rattle.vp_pay.specs.Reading.{deck_of, one_to_five, wild_of, letter_of_rank, qualifier_of, plain_of, payment_of};
+
+use crate::{Pattern, Qualifier};
+use vp_card::rank_of;
+use vp_text::number;
+
+#[tactic(auto, unfolding(crate::specs::Reading::deck_of))]
+pub(crate) fn deck_of(text: &[u8]) -> Option<u8>
+    ensures { result ≡ deck_of text.now }
+{
+    if text == b"52".as_slice() {
+        Some(52)
+    } else if text == b"53".as_slice() {
+        Some(53)
+    } else {
+        None
+    }
+}
+
+#[tactic(auto, unfolding(crate::specs::Reading::one_to_five))]
+pub(crate) fn one_to_five(text: &[u8]) -> Option<u8>
+    ensures value { result ≡ one_to_five text.now }
+    ensures range { IfSome result (λ n. (1 ≤ n) × (n ≤ 5)) }
+{
+    let [digit] = text else {
+        return None;
+    };
+    if b'1' <= *digit && *digit <= b'5' {
+        Some(*digit - b'0')
+    } else {
+        None
+    }
+}
+
+fn letter_of_rank(text: &[u8]) -> Option<Option<u8>>
+    ensures { result ≡ letter_of_rank text.now }
+{
+    let [letter] = text else {
+        return None;
+    };
+    let rank = rank_of(*letter)?;
+    Some(Some(rank))
+}
+
+#[tactic(auto, unfolding(crate::specs::Reading::wild_of))]
+pub(crate) fn wild_of(text: &[u8]) -> Option<Option<u8>>
+    ensures { result ≡ wild_of text.now }
+{
+    if text == b"none".as_slice() {
+        Some(None)
+    } else {
+        letter_of_rank(text)
+    }
+}
+
+#[tactic(auto, unfolding(crate::specs::Reading::qualifier_of))]
+pub(crate) fn qualifier_of(text: &[u8]) -> Option<Qualifier>
+    ensures { result ≡ qualifier_of text.now }
+{
+    if text == b"either".as_slice() {
+        Some(Qualifier::Either)
+    } else if text == b"natural".as_slice() {
+        Some(Qualifier::Natural)
+    } else if text == b"wild".as_slice() {
+        Some(Qualifier::Wild)
+    } else {
+        None
+    }
+}
+
+#[tactic(auto, unfolding(crate::specs::Reading::plain_of))]
+pub(crate) fn plain_of(text: &[u8]) -> Option<Pattern>
+    ensures { result ≡ plain_of text.now }
+{
+    if text == b"royal".as_slice() {
+        Some(Pattern::Royal)
+    } else if text == b"straight-flush".as_slice() {
+        Some(Pattern::StraightFlush)
+    } else if text == b"full-house".as_slice() {
+        Some(Pattern::FullHouse)
+    } else if text == b"flush".as_slice() {
+        Some(Pattern::Flush)
+    } else if text == b"straight".as_slice() {
+        Some(Pattern::Straight)
+    } else if text == b"trips".as_slice() {
+        Some(Pattern::Trips)
+    } else if text == b"two-pair".as_slice() {
+        Some(Pattern::TwoPair)
+    } else {
+        None
+    }
+}
+
+pub(crate) fn payment_of(text: &[u8]) -> Option<u32>
+    ensures { result ≡ payment_of text.now }
+{
+    let Some(value) = number(text) else {
+        return None;
+    };
+    if value <= 500000 {
+        Some(value as u32)
+    } else {
+        None
+    }
+}
