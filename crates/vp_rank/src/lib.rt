@@ -1,0 +1,6 @@
+//! What the cards of a hand have together: counts of ranks, suits and wild cards, and windows of five ranks.
+#![tactic(auto)]
+
+mod shape;
+
+pub use shape::Shape;
