@@ -1,0 +1,5 @@
+pub mod Alike
+pub mod Faces
+pub mod Patterns
+pub mod Payment
+pub mod ByCounts

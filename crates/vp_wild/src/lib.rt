@@ -1,0 +1,16 @@
+//! Ranking of hands with wild cards: the first pay line that a hand hits, and its payment.
+#![tactic(auto)]
+
+mod laws;
+mod patterns;
+mod ranker;
+mod steps;
+#[cfg(test)]
+mod tests;
+
+pub use laws::{
+    alike_hands_are_paid_alike, counts_tell_matches, faces_are_tried, order_plays_no_part,
+    suits_can_be_exchanged,
+};
+pub use ranker::{line_of, pay};
+pub use steps::Steps;
