@@ -1,0 +1,4 @@
+pub mod Payments
+pub mod Walks
+pub mod Values
+pub mod Choice

@@ -1,0 +1,108 @@
+//! The values of the 32 holds of a hand, and the best of them.
+
+ghost use Rattle.std.specs.Prelude.{ℕ, ◌≡◌, ◌+◌, ◌*◌, ◌<◌, ◌≤◌, true, length, sum_by};
+ghost use Rattle.vp_card.specs.Cards.{IsHand, in_deck};
+ghost use Rattle.vp_pay.specs.Table.{IsTable};
+ghost use Rattle.vp_sets.specs.Draws.{common, discarded, draws};
+ghost use Rattle.vp_draws.specs.Draws.{best, least_best, masks, ties, total, value};
+
+use crate::walk::plain_total;
+use std::sync::ledger::Ledger;
+use vp_card::Hand;
+use vp_pay::PayTable;
+use vp_sets::scale;
+use vp_wild::Steps;
+
+/// The best hold of a hand.
+#[derive(Clone, Copy, Debug, PartialEq, Eq)]
+pub struct Best {
+    /// The least mask of the greatest value; bit `i` holds the card at place `i` of the hand.
+    pub mask: u8,
+    /// The greatest value: the expected payment times the common denominator of the deck.
+    pub value: u64,
+    /// How many masks have that value.
+    pub ties: u8,
+}
+
+/// The value of the hold `mask` for `coin` coins: its expected payment times the common denominator of
+/// the deck. One step of the counter for each draw.
+pub fn value_of<L: Ledger>(
+    table: &PayTable,
+    coin: u8,
+    hand: &Hand,
+    mask: u8,
+    steps: &mut Steps<L>,
+) -> u64
+    requires table { IsTable table.now }
+    requires coin_from { 1 ≤ coin }
+    requires coin_to { coin ≤ table.now.coins }
+    requires cards { in_deck table.now.deck hand.now ≡ true }
+    ensures value { result ≡ value table.now coin hand.now mask }
+    // Over the common denominator it is the mean of the payments over all draws.
+    ensures mean { result * length (draws table.now.deck hand.now mask) ≡ total table.now coin hand.now mask * common table.now.deck }
+    ensures steps { steps.new ≡ steps.old + length (draws table.now.deck hand.now mask) }
+{
+    let total = plain_total(table, coin, hand, mask, steps);
+    total * scale(table.deck, cards_drawn(hand, mask))
+}
+
+/// How many cards a hold draws.
+fn cards_drawn(hand: &Hand, mask: u8) -> u8
+    ensures drawn { result ≡ length (discarded mask hand.now) }
+    ensures few { result ≤ 5 }
+    ensures hand { IsHand hand.now }
+{
+    (hand.numbers().len() - hand.held(mask).len()) as u8
+}
+
+/// The best of the 32 holds for `coin` coins, by walking all their draws. One step of the counter for each draw.
+pub fn plain_best<L: Ledger>(table: &PayTable, coin: u8, hand: &Hand, steps: &mut Steps<L>) -> Best
+    requires table { IsTable table.now }
+    requires coin_from { 1 ≤ coin }
+    requires coin_to { coin ≤ table.now.coins }
+    requires cards { in_deck table.now.deck hand.now ≡ true }
+    ensures hold { result.mask < 32 }
+    ensures value { result.value ≡ value table.now coin hand.now result.mask }
+    // No other hold exceeds it.
+    ensures greatest { (mask : ℕ) → mask < 32 → value table.now coin hand.now mask ≤ result.value }
+    // Each smaller mask is worth less.
+    ensures least { (mask : ℕ) → mask < result.mask → value table.now coin hand.now mask < result.value }
+    ensures ties { result.ties ≡ ties table.now coin hand.now }
+    ensures best { result.value ≡ best table.now coin hand.now }
+    ensures least_best { result.mask ≡ least_best table.now coin hand.now }
+    ensures steps { steps.new ≡ steps.old + sum_by (λ mask. length (draws table.now.deck hand.now mask)) masks }
+{
+    let mut best = Best {
+        mask: 0,
+        value: value_of(table, coin, hand, 0, steps),
+        ties: 1,
+    };
+    for mask in 1..32u8 {
+        let value = value_of(table, coin, hand, mask, steps);
+        best = better(best, mask, value);
+    }
+    best
+}
+
+/// The better of the best hold so far and a hold of a greater mask.
+fn better(best: Best, mask: u8, value: u64) -> Best
+    requires { best.ties < 255 }
+    ensures greater { best.value < value → result ≡ record { mask = mask; value = value; ties = 1 } }
+    ensures equal { best.value ≡ value → result ≡ record best { ties = best.ties + 1 } }
+    ensures less { value < best.value → result ≡ best }
+{
+    if best.value < value {
+        Best {
+            mask,
+            value,
+            ties: 1,
+        }
+    } else if best.value == value {
+        Best {
+            ties: best.ties + 1,
+            ..best
+        }
+    } else {
+        best
+    }
+}
