@@ -1,0 +1,56 @@
+//! The table of sums as a value, and a reader of it that counts its reads.
+
+ghost use Rattle.std.specs.Prelude.{◌≡◌, ◌≤◌, length};
+ghost use Rattle.std.specs.List.{All};
+ghost use Rattle.vp_sets.specs.Sets.{choose};
+ghost use Rattle.vp_sets.specs.Index.{IsSet};
+ghost use Rattle.vp_count.specs.Sums.{containing};
+ghost use Rattle.vp_count.specs.Table.{five_numbers, first_word};
+
+use crate::table::{fill_levels, first_word};
+use std::marker::Model;
+use vp_sets::index_of;
+
+/// The sums of the numbers of all sets of five that contain a set, for each set of at most five cards.
+#[derive(Drop)]
+pub struct SumTable<'a> {
+    n: u8,
+    words: &'a [u64],
+}
+
+impl<'a> Model for SumTable<'a> {
+    ghost use Rattle.vp_count.specs.Table.{IsTable, Table, table_of};
+
+    ghost Value = { Table };
+
+    ghost view = { λ t. table_of t.n t.words.now };
+
+    ghost invariant = { λ t. IsTable t.n t.words.now };
+}
+
+impl<'a> SumTable<'a> {
+    /// Makes the table of a deck of `n` cards. The last words are the numbers of the sets of five, by their indexes;
+    /// all others are written.
+    pub fn fill(n: u8, words: &'a mut [u64]) -> SumTable<'a>
+        requires cards { 5 ≤ n }
+        requires deck { n ≤ 54 }
+        requires long { length words.old ≡ first_word n 6 }
+        requires bounded { All (λ x. x ≤ 250000000000) (five_numbers n words.old) }
+        ensures size { result.size ≡ n }
+        ensures numbers { result.numbers ≡ five_numbers n words.old }
+    {
+        fill_levels(n, words);
+        SumTable { n, words }
+    }
+
+    /// The sum of the numbers of all sets of five that contain the set.
+    pub fn at(&self, set: &[u8]) -> u64
+        requires few { length set.now ≤ 5 }
+        requires set { IsSet self.now.size set.now }
+        ensures sum { result ≡ containing self.now.size self.now.numbers set.now }
+        ensures numbered { length self.now.numbers ≡ choose self.now.size 5 }
+        ensures bounded { All (λ x. x ≤ 250000000000) self.now.numbers }
+    {
+        self.words[first_word(self.n, set.len() as u8) + index_of(set) as usize]
+    }
+}
