@@ -1,0 +1,16 @@
+pub mod Below
+pub mod Members
+pub mod Action
+pub mod Group
+pub mod Cards
+pub mod Hands
+pub mod Masks
+pub mod Deals
+pub mod Score
+pub mod Falls
+pub mod Weights
+pub mod Representatives
+pub mod Walks
+pub mod ClassLaws
+pub mod TurnedDraws
+pub mod Cover

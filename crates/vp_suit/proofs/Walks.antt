@@ -1,0 +1,82 @@
+-- A walk over all deals by rising index, and the hand of a deal.
+use Rattle.std.proofs.Common.{◌≡◌, ◌⊎◌, inl, inr, ℕ, ◌+◌, ◌<◌, ◌≤◌, Bool, true, false, cond, IsTrue, List, [], ◌∷◌, length, get_or, drop, refl, ap, sym, subst, ◌∙◌, arith, lit≤, eqb, filter}
+use Rattle.std.specs.Prelude.{◌↔◌}
+use Rattle.std.proofs.lemmas.List.{drop_more, drop_all}
+use Rattle.std.proofs.lemmas.Bool.{cases_Bool, cases_lt, both_ways}
+use Rattle.std.proofs.lemmas.List.Sums.{length-filter, count_by-le-length}
+use Rattle.std.specs.List.{IsDistinct, count_by}
+use Rattle.std.specs.List.Sorted.{IsPermutation}
+use Rattle.vp_card.specs.Cards.{IsHand}
+use Rattle.vp_sets.specs.Sets.{choose, times}
+use Rattle.vp_sets.specs.Index.{HasIndex, set_index, index_from, colex}
+use Rattle.vp_sets.proofs.Rising.{rising_same, times-IsPermutation, times-rising, distinct_from}
+use Rattle.vp_sets.proofs.Binomials.{choose_small}
+use Rattle.vp_sets.proofs.Colex.{colex_count, hand_is_set}
+use Rattle.vp_suit.specs.Classes.{IsDeal, is_representative, representatives}
+use Rattle.vp_suit.proofs.Hands.{hand_rises, five}
+use Rattle.vp_suit.proofs.Deals.{deal, deal_at, deal_rises, index_small}
+
+-- a hand is a deal
+pub hand_deal : (cards : List ℕ) → IsHand cards → IsDeal 53 cards
+hand_deal cards hand = record { five = hand.five; set = hand_is_set 53 cards hand hand.below }
+
+-- the deal with the index 0
+pub first_deal : (n : ℕ) → drop (set_index (0 ∷ 1 ∷ 2 ∷ 3 ∷ 4 ∷ [])) (colex 5 n) ≡ colex 5 n
+unfolding set_index index_from choose
+first_deal n = refl
+
+-- the deals from one on are this one and the deals from the next on
+pub deals_from : (n : ℕ) (cards : List ℕ) → IsDeal n cards → drop (set_index cards) (colex 5 n) ≡ cards ∷ drop (set_index cards + 1) (colex 5 n)
+unfolding deal
+deals_from n cards d =
+    let inside : set_index cards < length (colex 5 n) = subst (λ m. set_index cards < m) (sym (colex_count 5 n)) (index_small n cards d) in
+    drop_more (colex 5 n) (set_index cards) [] inside ∙ ap (λ (x : List ℕ). x ∷ drop (set_index cards + 1) (colex 5 n)) (deal_at n cards d)
+
+-- one step of the walk
+pub step : (n : ℕ) (cards new : List ℕ) (old : List (List ℕ)) (left more : Bool) → IsDeal n cards → left ≡ true → old ≡ cond left (drop (set_index cards) (colex 5 n)) []
+    → (IsTrue more ↔ (set_index cards + 1 < choose n (length cards))) → (more ≡ true → HasIndex n (length cards) (set_index cards + 1) new)
+    → old ≡ cards ∷ cond more (drop (set_index new) (colex 5 n)) []
+step n cards new old left more d on view tells next =
+    let here : old ≡ drop (set_index cards) (colex 5 n) = rw on at view in
+    here ∙ deals_from n cards d ∙ elim (cases_Bool more) [
+      | inl yes' ↦ ap (λ (x : List (List ℕ)). cards ∷ x) (ap (λ k. drop k (colex 5 n)) (sym (next yes').index) ∙ sym (ap (λ b. cond b (drop (set_index new) (colex 5 n)) []) yes'))
+      | inr no' ↦
+          let past : length (colex 5 n) ≤ set_index cards + 1 = subst (λ m. m ≤ set_index cards + 1) (sym (colex_count 5 n)) (last no') in
+          ap (λ (x : List (List ℕ)). cards ∷ x) (drop_all (set_index cards + 1) (colex 5 n) past ∙ sym (ap (λ b. cond b (drop (set_index new) (colex 5 n)) []) no'))
+    ]
+  where
+    last : more ≡ false → choose n 5 ≤ set_index cards + 1
+    last no' =
+        let k : choose n (length cards) ≡ choose n 5 = ap (λ m. choose n m) d.five in
+        elim (cases_lt (set_index cards + 1) (choose n (length cards))) [
+          | inl l ↦ absurd (both_ways more no' (tells.1 l))
+          | inr l ↦ omega arith
+        ]
+
+-- five cards in a row
+pub row_of : (cards : List ℕ) (a b c d e : ℕ) → length cards ≡ 5 → a ≡ get_or cards 0 0 → b ≡ get_or cards 1 0 → c ≡ get_or cards 2 0 → d ≡ get_or cards 3 0 → e ≡ get_or cards 4 0 → a ∷ b ∷ c ∷ d ∷ e ∷ [] ≡ cards
+row_of cards a b c d e l p q r s t = rw (p, q, r, s, t) (sym (five cards l))
+
+-- the cards of a deal differ
+pub different_cards : (cards row : List ℕ) → IsDeal 53 cards → row ≡ cards → IsDistinct eqb row
+different_cards cards row d e = rw e (distinct_from cards (λ x. times-rising x cards (deal_rises 53 cards d)))
+
+-- cards that rise are the hand that is made of them
+pub hand_of_deal : (n : ℕ) (cards row hand : List ℕ) → IsDeal n cards → row ≡ cards → IsPermutation row hand → IsHand hand → hand ≡ cards
+hand_of_deal n cards row hand d e same h = rising_same hand cards (hand_rises hand h) (deal_rises n cards d) (λ x. times-IsPermutation x row hand same ∙ ap (λ (s : List ℕ). times x s) e)
+
+-- ---- the classes that are left
+
+pub left_new : (n : ℕ) (deals : List (List ℕ)) → deals ≡ colex 5 n → filter (λ cards. is_representative cards) deals ≡ representatives n
+unfolding representatives
+left_new n deals e = ap (λ (x : List (List ℕ)). filter (λ cards. is_representative cards) x) e
+
+-- there are at most as many classes as deals
+pub few_classes : (n : ℕ) → (n ≡ 52) ⊎ (n ≡ 53) → length (representatives n) ≤ 459165024
+unfolding representatives
+few_classes n e =
+    let a : length (filter (λ cards. is_representative cards) (colex 5 n)) ≡ count_by (λ cards. is_representative cards) (colex 5 n) = length-filter (λ cards. is_representative cards) (colex 5 n) in
+    let b : count_by (λ cards. is_representative cards) (colex 5 n) ≤ length (colex 5 n) = count_by-le-length (λ cards. is_representative cards) (colex 5 n) in
+    let c : length (colex 5 n) ≡ choose n 5 = colex_count 5 n in
+    let d : choose n 5 ≤ 459165024 = choose_small n 5 (elim e [ inl p ↦ omega arith | inr p ↦ omega arith ]) (lit≤ tt) in
+    omega arith

@@ -1,0 +1,16 @@
+-- A suit's cards as one number, by which suits are compared.
+use Rattle.std.specs.Prelude.{ℕ, ◌+◌, ◌*◌, ◌^◌, Bool, if◌then◌else◌, ◌&&◌, ◌==◌, nat_lt, nat_le, List, [], ◌∷◌}
+use Rattle.vp_card.specs.Cards.{rank, suit}
+
+-- what a card adds to the heap of a suit: 16 to the power of its rank, if it has that suit
+unfoldable pub card_heap : ℕ → ℕ → ℕ
+card_heap of_suit card = if nat_lt card 52 && (suit card == of_suit) then 2 ^ (4 * rank card) else 0
+
+-- the heap of a suit: the ranks of its cards as a number
+unfoldable pub heap : ℕ → List ℕ → ℕ
+heap of_suit [] = 0
+heap of_suit (card ∷ cards) = card_heap of_suit card + heap of_suit cards
+
+-- no suit has a greater heap than the one before it
+unfoldable pub falls : List ℕ → Bool
+falls cards = nat_le (heap 1 cards) (heap 0 cards) && nat_le (heap 2 cards) (heap 1 cards) && nat_le (heap 3 cards) (heap 2 cards)

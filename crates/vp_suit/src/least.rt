@@ -1,0 +1,45 @@
+//! The representative of a hand's class, and the weight of the class.
+
+ghost use Rattle.std.specs.Prelude.{◌≡◌, ◌≢◌, ℕ, ◌<◌, ◌≤◌};
+ghost use Rattle.vp_sets.specs.Index.{set_index};
+ghost use Rattle.vp_suit.specs.Turns.{turn};
+ghost use Rattle.vp_suit.specs.Classes.{is_representative, least_turn, representative, weight};
+
+use crate::heaps::{stands, weight_of};
+use crate::{SuitTurn, turn};
+use vp_card::Hand;
+
+/// The representative of the hand's class, and the least turn that gives it.
+pub fn least_image(hand: &Hand) -> (Hand, SuitTurn)
+    ensures representative { result.0 ≡ representative hand.now }
+    ensures turn { result.1 ≡ least_turn hand.now }
+    // It is the image by this turn, and no image has a lower index.
+    ensures image { result.0 ≡ turn result.1 hand.now }
+    ensures least { (t : ℕ) → t < 24 → set_index result.0 ≤ set_index (turn t hand.now) }
+    // No lesser turn gives it.
+    ensures first { (t : ℕ) → t < result.1 → turn t hand.now ≢ result.0 }
+{
+    let _ = hand.numbers();
+    let mut t = SuitTurn::first();
+    let mut image = turn(t, hand);
+    while !is_representative(&image) {
+        t = t.following();
+        image = turn(t, hand);
+    }
+    (image, t)
+}
+
+fn is_representative(hand: &Hand) -> bool
+    ensures { result ≡ is_representative hand.now }
+{
+    stands(&hand.numbers())
+}
+
+/// The weight of the hand's class: the number of its different images.
+pub fn weight(hand: &Hand) -> u8
+    ensures { result ≡ weight hand.now }
+{
+    let _ = hand.numbers();
+    let (image, _) = least_image(hand);
+    weight_of(&image.numbers())
+}
