@@ -1,0 +1,4 @@
+pub mod Filled
+pub mod Shapes
+pub mod Values
+pub mod Written

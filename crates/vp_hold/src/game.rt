@@ -1,0 +1,118 @@
+//! A bet on a pay table, with the sums that all its values come from.
+
+ghost use Rattle.std.specs.Prelude.{ℕ, ◌≡◌, ◌+◌, ◌<◌, ◌≤◌, true, length, slice_index};
+ghost use Rattle.vp_card.specs.Cards.{in_deck};
+ghost use Rattle.vp_pay.specs.Table.{IsTable};
+ghost use Rattle.vp_sets.specs.Sets.{choose};
+ghost use Rattle.vp_count.specs.Table.{first_word};
+ghost use Rattle.vp_draws.specs.Draws.{best, least_best, ties, value};
+
+use crate::choice::{better, scaled};
+use crate::payments::write_payments;
+use std::marker::Model;
+use std::sync::ledger::Ledger;
+use vp_card::Hand;
+use vp_count::{Reads, SumTable, all_totals, held_total};
+use vp_draws::Best;
+use vp_pay::PayTable;
+use vp_sets::choose;
+use vp_wild::Steps;
+
+/// A bet on a pay table, and the sums of the payments of all hands of its deck.
+#[derive(Drop)]
+pub struct Game<'a> {
+    table: &'a PayTable,
+    coin: u8,
+    sums: SumTable<'a>,
+}
+
+impl<'a> Model for Game<'a> {
+    ghost use Rattle.vp_hold.specs.Games.{Bet, IsGame};
+
+    ghost Value = { Bet };
+
+    ghost view = { λ g. record { table = g.table.now; coin = g.coin } };
+
+    ghost invariant = { λ g. IsGame g.table.now g.coin g.sums };
+}
+
+impl<'a> Game<'a> {
+    /// Ranks every hand of the deck once, and makes the sums of their payments in `words`, which may hold any numbers.
+    /// One step of the counter for each hand; a payment that is kept for all hands of its shape is a step, too.
+    pub fn fill<L: Ledger>(
+        table: &'a PayTable,
+        coin: u8,
+        words: &'a mut [u64],
+        steps: &mut Steps<L>,
+    ) -> Game<'a>
+        requires table { IsTable table.now }
+        requires coin_from { 1 ≤ coin }
+        requires coin_to { coin ≤ table.now.coins }
+        requires long { length words.old ≡ first_word table.now.deck 6 }
+        ensures table { result.table ≡ table.now }
+        ensures coin { result.coin ≡ coin }
+        ensures steps { steps.new ≡ steps.old + choose table.now.deck 5 }
+    {
+        let hands = choose(table.deck, 5) as usize;
+        let first = words.len() - hands;
+        write_payments(table, coin, &mut words[first..], steps);
+        let sums = SumTable::fill(table.deck, words);
+        Game { table, coin, sums }
+    }
+
+    /// The pay table.
+    pub fn table(&self) -> &PayTable
+        ensures table { result.now ≡ self.now.table }
+        ensures rules { IsTable self.now.table }
+    {
+        self.table
+    }
+
+    /// The number of coins bet.
+    pub fn coin(&self) -> u8
+        ensures coin { result ≡ self.now.coin }
+        ensures coin_from { 1 ≤ self.now.coin }
+        ensures coin_to { self.now.coin ≤ self.now.table.coins }
+    {
+        self.coin
+    }
+
+    /// The value of the hold `mask`: its expected payment times the common denominator of the deck. Bit `i` holds the
+    /// card at place `i` of the hand.
+    pub fn value(&self, hand: &Hand, mask: u8) -> u64
+        requires cards { in_deck self.now.table.deck hand.now ≡ true }
+        requires mask { mask < 32 }
+        ensures { result ≡ value self.now.table self.now.coin hand.now mask }
+    {
+        let mut reads = Reads::new(&self.sums);
+        let total = held_total(&mut reads, &hand.numbers(), mask);
+        scaled(self.table.deck, hand, mask, total)
+    }
+
+    /// The best of the 32 holds of the hand.
+    pub fn best(&self, hand: &Hand) -> Best
+        requires cards { in_deck self.now.table.deck hand.now ≡ true }
+        ensures hold { result.mask < 32 }
+        ensures value { result.value ≡ value self.now.table self.now.coin hand.now result.mask }
+        // No other hold exceeds it.
+        ensures greatest { (mask : ℕ) → mask < 32 → value self.now.table self.now.coin hand.now mask ≤ result.value }
+        // Each smaller mask is worth less.
+        ensures least { (mask : ℕ) → mask < result.mask → value self.now.table self.now.coin hand.now mask < result.value }
+        ensures ties { result.ties ≡ ties self.now.table self.now.coin hand.now }
+        ensures best { result.value ≡ best self.now.table self.now.coin hand.now }
+        ensures least_best { result.mask ≡ least_best self.now.table self.now.coin hand.now }
+    {
+        let mut reads = Reads::new(&self.sums);
+        let totals = all_totals(&mut reads, &hand.numbers());
+        let mut best = Best {
+            mask: 0,
+            value: scaled(self.table.deck, hand, 0, totals[0]),
+            ties: 1,
+        };
+        for mask in 1..32u8 {
+            let value = scaled(self.table.deck, hand, mask, totals[mask as usize]);
+            best = better(best, mask, value);
+        }
+        best
+    }
+}

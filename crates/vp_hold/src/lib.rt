@@ -1,0 +1,17 @@
+//! The value of each hold of a hand, and the best hold, out of one table of sums for a bet.
+#![tactic(auto)]
+
+mod choice;
+mod game;
+mod hands;
+mod known;
+mod laws;
+mod payments;
+#[cfg(test)]
+mod plain;
+#[cfg(test)]
+mod tests;
+
+pub use game::Game;
+pub use laws::payment_laws;
+pub use vp_draws::Best;
