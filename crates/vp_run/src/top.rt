@@ -1,0 +1,136 @@
+// All that the program does, from its words and its input to its text and its status.
+ghost use Rattle.std.specs.Prelude.{◌≡◌, ◌≤◌, [], length, map, true, false, Some};
+ghost use Rattle.vp_run.specs.Answer.{answer, needs_input, refusal, tables_answer, usage};
+ghost use Rattle.vp_run.specs.declared.command.Command.TheVariants.{Deal};
+ghost use Rattle.vp_run.specs.Commands.{command_of};
+ghost use Rattle.vp_run.specs.Outcome.{Outcome, Served, Unread, told};
+
+use crate::Status;
+use crate::command::{Command, command_of};
+use crate::deal_input::read_deal_input;
+use crate::deal_text::put_refusal;
+use crate::serve::{USAGE, region_words, served};
+use crate::tables_text::put_tables;
+use std::alloc::Global;
+use vp_io::{ReadStop, Sink, Source, WriteFault, put, read_all};
+use vp_region::Region;
+use vp_text::Refused;
+
+/// All that the program does. The words are the arguments after the program's name.
+pub fn vpoker<S: Source, K: Sink>(
+    alloc: Global,
+    words: &[&str],
+    source: &mut S,
+    sink: &mut K,
+) -> Status
+    // Words that need no input: the source is not read.
+    ensures unread { let given = map (λ w. w.now) words.now in needs_input given ≡ false → source.new ≡ source.old }
+    ensures words { let given = map (λ w. w.now) words.now in needs_input given ≡ false → Unread (answer given [])
+        (told K.taken K.faults sink.old)
+        (told K.taken K.faults sink.new) result }
+    // A command that reads its input.
+    ensures command { let given = map (λ w. w.now) words.now in needs_input given ≡ true → Outcome (answer given)
+        (told S.left S.faults source.old)
+        (told S.left S.faults source.new)
+        (told K.taken K.faults sink.old)
+        (told K.taken K.faults sink.new) result }
+{
+    match command_of(words) {
+        None => write_usage(sink),
+        Some(Command::Tables) => write_tables(sink),
+        Some(Command::Deal(coin)) => deal(alloc, words, coin, source, sink),
+    }
+}
+
+/// Writes the answer to words that are no command.
+#[tactic(auto, unfolding(crate::specs::Answer::usage))]
+fn write_usage<K: Sink>(sink: &mut K) -> Status
+    ensures { Unread usage (told K.taken K.faults sink.old) (told K.taken K.faults sink.new) result }
+{
+    match put(sink, USAGE) {
+        Ok(()) => Status::Usage,
+        Err(WriteFault) => Status::WriteFault,
+    }
+}
+
+/// Writes the built-in tables.
+#[tactic(auto, unfolding(crate::specs::Answer::tables_answer))]
+fn write_tables<K: Sink>(sink: &mut K) -> Status
+    ensures { Unread tables_answer (told K.taken K.faults sink.old) (told K.taken K.faults sink.new) result }
+{
+    match put_tables(sink) {
+        Ok(()) => Status::Done,
+        Err(WriteFault) => Status::WriteFault,
+    }
+}
+
+/// Reads the input of `deal` and writes its answer.
+fn deal<S: Source, K: Sink>(
+    alloc: Global,
+    words: &[&str],
+    coin: u8,
+    source: &mut S,
+    sink: &mut K,
+) -> Status
+    requires command { command_of (map (λ w. w.now) words.now) ≡ Some (Deal coin) }
+    ensures { Outcome (answer (map (λ w. w.now) words.now))
+        (told S.left S.faults source.old)
+        (told S.left S.faults source.new)
+        (told K.taken K.faults sink.old)
+        (told K.taken K.faults sink.new) result }
+{
+    match read_all(alloc, source) {
+        Ok(bytes) => write_answer(alloc, words, coin, &bytes, sink),
+        Err(ReadStop::ReadFault) => Status::ReadFault,
+        Err(ReadStop::TooLong) => Status::TooLong,
+        Err(ReadStop::NoMemory) => Status::NoMemory,
+    }
+}
+
+/// Writes the answer of `deal` to its input: the line where it is refused, or the figures.
+fn write_answer<K: Sink>(
+    alloc: Global,
+    words: &[&str],
+    coin: u8,
+    bytes: &[u8],
+    sink: &mut K,
+) -> Status
+    requires command { command_of (map (λ w. w.now) words.now) ≡ Some (Deal coin) }
+    requires limit { length bytes.now ≤ 67108864 }
+    ensures { Served (answer (map (λ w. w.now) words.now) bytes.now)
+        (told K.taken K.faults sink.old)
+        (told K.taken K.faults sink.new) result }
+{
+    match read_deal_input(bytes, coin) {
+        Ok(_) => write_done(alloc, words, bytes, sink),
+        Err(refused) => write_refusal(refused, sink),
+    }
+}
+
+/// Writes the line of a refused input.
+#[tactic(auto, unfolding(crate::specs::Answer::refusal))]
+fn write_refusal<K: Sink>(refused: Refused, sink: &mut K) -> Status
+    ensures { Served (refusal refused.line) (told K.taken K.faults sink.old) (told K.taken K.faults sink.new) result }
+{
+    match put_refusal(refused.line, sink) {
+        Ok(()) => Status::Refused,
+        Err(WriteFault) => Status::WriteFault,
+    }
+}
+
+/// Opens the region that the answer needs, before anything is written, and writes the answer.
+fn write_done<K: Sink>(alloc: Global, words: &[&str], bytes: &[u8], sink: &mut K) -> Status
+    requires limit { length bytes.now ≤ 67108864 }
+    requires done { (answer (map (λ w. w.now) words.now) bytes.now).status ≡ Status.Done }
+    ensures { Served (answer (map (λ w. w.now) words.now) bytes.now)
+        (told K.taken K.faults sink.old)
+        (told K.taken K.faults sink.new) result }
+{
+    let Ok(mut region) = Region::open(alloc, region_words(words, bytes)) else {
+        return Status::NoMemory;
+    };
+    match served(words, bytes, &mut region, sink) {
+        Ok(()) => Status::Done,
+        Err(WriteFault) => Status::WriteFault,
+    }
+}
