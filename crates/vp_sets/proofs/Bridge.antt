@@ -1,16 +1,14 @@
 -- The sum over the draws of a hold is a sum over all sets, of which those count that have the held cards and no discard.
-use Rattle.std.proofs.Common.{◌≡◌, ◌⊎◌, inl, inr, ℕ, zero, suc, ◌+◌, ◌*◌, ◌/◌, ◌%◌, ◌<◌, ◌≤◌, refl, ap, sym, ◌∙◌, arith, zero-add, add-zero, Bool, true, false, cond, not, ◌||◌, ◌&&◌, ◌==◌, List, [], ◌∷◌, ◌++◌, length, map, filter, length-append, append_assoc, append-nil}
-use Rattle.std.specs.List.{sum_by, list_all}
+use Rattle.std.proofs.Common.{◌≡◌, ◌⊎◌, inl, inr, ℕ, zero, suc, ◌+◌, ◌/◌, ◌%◌, ◌<◌, ◌≤◌, refl, ap, sym, ◌∙◌, arith, Bool, true, false, cond, not, ◌||◌, ◌==◌, List, [], ◌∷◌, ◌++◌, length}
 use Rattle.std.proofs.lemmas.Bool.{cases_eq, cases_Bool, eq-eqb, ne_eqb, or_left, or_right, cond-true, cond-false, false≢true, true≢false}
-use Rattle.vp_sets.specs.Sets.{IsBelow, IsRising, deck, combos, has, without, place, joined}
+use Rattle.vp_sets.specs.Sets.{IsBelow, IsRising, deck, has, without, place, joined}
 use Rattle.vp_card.specs.Cards.{held}
 use Rattle.vp_sets.specs.Draws.{discarded, draws, sum_over_draws}
-use Rattle.vp_sets.specs.Subsets.{has_all}
 use Rattle.vp_sets.specs.Index.{IsSet}
 use Rattle.vp_sets.proofs.Decks.{rising-deck}
 use Rattle.vp_sets.proofs.Colex.{Below, set_rises, set_below}
-use Rattle.vp_sets.proofs.Over.{less, over, over-zero, over-none, over-cons, over_is, Picked, over_agree, over-nought, over_none, over-plus}
-use Rattle.vp_sets.proofs.Spread.{has-none, has-here, has-later, has-cons, above_absent, place-none, place-here, place-later, less-none, less-here, less-later, less-rises, less-keeps, only_with, only_without, only_with-yes, only_with-no, only_without-yes, only_without-no, over_with, over_without, with_or_without}
+use Rattle.vp_sets.proofs.Over.{less, over, over_is, over_agree}
+use Rattle.vp_sets.proofs.Spread.{has-none, has-here, has-later, has-cons, place-none, place-here, place-later, less-rises, less-keeps, only_with, only_without, over_with, over_without}
 
 -- all members of the one list are in the other
 abbrev pub Within : List ℕ → List ℕ → Type 0

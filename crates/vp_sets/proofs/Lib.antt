@@ -10,3 +10,4 @@ pub mod Bridge
 pub mod Colex
 pub mod Walk
 pub mod Pascal
+pub mod FiveCards

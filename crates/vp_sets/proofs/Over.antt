@@ -1,9 +1,9 @@
 -- Sums over the sublists of a list, and what one member does to them.
-use Rattle.std.proofs.Common.{◌≡◌, ◌⊎◌, inl, inr, ℕ, zero, suc, ◌+◌, ◌<◌, refl, ap, sym, ◌∙◌, arith, zero-add, Bool, true, false, cond, not, ◌||◌, ◌==◌, List, [], ◌∷◌, ◌++◌, length, map, filter}
+use Rattle.std.proofs.Common.{◌≡◌, ℕ, zero, suc, ◌+◌, refl, ap, sym, ◌∙◌, arith, zero-add, Bool, false, not, ◌||◌, ◌==◌, List, [], ◌∷◌, ◌++◌, length, map, filter}
 use Rattle.std.specs.List.{sum_by}
 use Rattle.std.proofs.lemmas.List.Sums.{sum_by-append, sum_by-cons}
-use Rattle.std.proofs.lemmas.Bool.{cases_eq, eq-eqb, ne_eqb, or_parts, or_from, lt-ltb, le-ltb}
-use Rattle.vp_sets.specs.Sets.{IsBelow, IsRising, combos, has, without, place, joined}
+use Rattle.std.proofs.lemmas.Bool.{or_parts, or_from}
+use Rattle.vp_sets.specs.Sets.{IsBelow, IsRising, combos, has}
 
 -- the members other than c
 unfoldable pub less : ℕ → List ℕ → List ℕ

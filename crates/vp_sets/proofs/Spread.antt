@@ -1,10 +1,8 @@
 -- One member singled out of the sublists of a list, and the sum over the draws of a hold.
-use Rattle.std.proofs.Common.{◌≡◌, ◌⊎◌, inl, inr, ℕ, zero, suc, ◌+◌, ◌*◌, ◌/◌, ◌%◌, ◌<◌, ◌≤◌, refl, ap, sym, ◌∙◌, arith, zero-add, add-zero, Bool, true, false, cond, not, ◌||◌, ◌&&◌, ◌==◌, nat_lt, List, [], ◌∷◌, ◌++◌, length, map, filter}
-use Rattle.std.specs.List.{sum_by, list_all}
-use Rattle.std.proofs.lemmas.Bool.{cases_eq, cases_lt, cases_Bool, eq-eqb, ne_eqb, or_parts, or_from, or_left, or_right, lt-ltb, le-ltb, cond-true, cond-false, false≢true, true≢false}
-use Rattle.vp_sets.specs.Sets.{IsBelow, IsRising, deck, combos, has, without, place, joined}
-use Rattle.vp_sets.specs.Draws.{discarded, draws, sum_over_draws}
-use Rattle.vp_sets.proofs.Over.{less, over, over-zero, over-none, over-cons, over_is, Picked, over_agree, over-nought, over_none, over-plus}
+use Rattle.std.proofs.Common.{◌≡◌, ◌⊎◌, inl, inr, ℕ, zero, suc, ◌+◌, ◌<◌, ◌≤◌, refl, ap, sym, ◌∙◌, arith, Bool, true, false, cond, not, ◌||◌, ◌==◌, nat_lt, List, [], ◌∷◌}
+use Rattle.std.proofs.lemmas.Bool.{cases_eq, cases_Bool, eq-eqb, ne_eqb, or_parts, or_left, lt-ltb, le-ltb, cond-true, cond-false, false≢true}
+use Rattle.vp_sets.specs.Sets.{IsBelow, IsRising, has, place}
+use Rattle.vp_sets.proofs.Over.{less, over, over-zero, over-none, over-cons, over_agree, over_none, over-plus}
 
 eq_same : (c : ℕ) → (c == c) ≡ true
 eq_same c = eq-eqb c c refl

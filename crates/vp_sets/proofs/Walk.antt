@@ -1,15 +1,14 @@
 -- The steps of numbering a set, of making the set with an index, and of going to the next set.
-use Rattle.std.proofs.Common.{◌≡◌, ◌⊎◌, inl, inr, ℕ, zero, suc, ◌+◌, ◌-◌, ◌*◌, ◌^◌, ◌<◌, ◌≤◌, ◌↔◌, refl, ap, sym, ◌∙◌, subst, arith, zero-add, add-zero, add-one, Bool, true, false, List, [], ◌∷◌, ◌++◌, length, get_or, take, drop, set, lit<, lit≤}
-use Rattle.std.specs.List.{All}
+use Rattle.std.proofs.Common.{◌≡◌, ◌⊎◌, inl, inr, ℕ, zero, suc, ◌+◌, ◌-◌, ◌<◌, ◌≤◌, refl, ap, sym, ◌∙◌, subst, arith, zero-add, add-one, List, [], ◌∷◌, ◌++◌, length, get_or, take, drop, set}
 use Rattle.std.specs.List.Sorted.{IsStrictlyIncreasing}
 use Rattle.std.proofs.Math.Nat.{le_trans}
 use Rattle.std.proofs.Math.Seq.{take-suc}
-use Rattle.std.proofs.lemmas.List.{length-take-le, take-append-drop, get_or-drop, drop-set, drop-set-lt}
-use Rattle.std.proofs.lemmas.Bool.{cases_lt, cases_eq}
+use Rattle.std.proofs.lemmas.List.{length-take-le, take-append-drop, get_or-drop, drop-set}
+use Rattle.std.proofs.lemmas.Bool.{cases_lt}
 use Rattle.vp_sets.specs.Sets.{IsBelow, IsRising, choose}
-use Rattle.vp_sets.specs.Index.{IsSet, HasIndex, index_from, set_index, colex}
+use Rattle.vp_sets.specs.Index.{IsSet, HasIndex, index_from, set_index}
 use Rattle.vp_sets.proofs.Binomials.{choose-zero, choose-none, choose-suc, choose-few, choose_small}
-use Rattle.vp_sets.proofs.Colex.{Below, below_from, below_at, above_at, rises_from, rises_at, increasing_from, set_rises, set_below, set_from, index-none, index-cons, index-append, index-push, index_lt, choose_up}
+use Rattle.vp_sets.proofs.Colex.{Below, below_from, below_at, rises_from, rises_at, set_rises, set_below, set_from, index-none, index-cons, index-append, index-push, index_lt}
 
 pub above_take : (c i : ℕ) (s : List ℕ) → IsBelow c s → IsBelow c (take i s)
 above_take c zero [] h = tt

@@ -1,13 +1,15 @@
-//! Sublists of a deck, their numbers, and the numbers by which sums over draws become expected payments.
+//! Sublists of a deck, their numbers, the hands that they are, and the numbers by which sums over draws become expected payments.
 #![tactic(auto)]
 
 ghost use Rattle.std.specs.Prelude.{ℕ, ◌≡◌, ◌⊎◌, ◌-◌, ◌*◌, ◌%◌, ◌<◌, ◌≤◌};
 ghost use Rattle.vp_sets.specs.Draws.{common, scale};
 ghost use Rattle.vp_sets.specs.Sets.{choose};
 
+mod hands;
 mod index;
 mod ways;
 
+pub use hands::hand_of;
 pub use index::{index_laws, index_of, next_set, set_at};
 use ways::WAYS;
 

@@ -1,4 +1,4 @@
-use Rattle.std.proofs.Common.{◌≡◌, ◌∙◌}
+use Rattle.std.proofs.Common.{◌∙◌}
 use Rattle.vp_sets.proofs.Pascal.{ways_are}
 use Rattle.vp_sets.proofs.choose.Goals as goal
 

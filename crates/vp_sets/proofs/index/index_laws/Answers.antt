@@ -1,7 +1,7 @@
-use Rattle.std.proofs.Common.{◌≡◌, ◌<◌, ℕ, List, [], length, get_or, refl, ap, sym, ◌∙◌, subst}
+use Rattle.std.proofs.Common.{◌≡◌, ◌<◌, ℕ, List, [], get_or, ap, sym, ◌∙◌}
 use Rattle.std.proofs.lemmas.List.{ext_get_or}
-use Rattle.vp_sets.specs.Sets.{IsBelow, IsRising, choose}
-use Rattle.vp_sets.specs.Index.{IsSet, HasIndex, index_from, set_index, colex}
+use Rattle.vp_sets.specs.Sets.{choose}
+use Rattle.vp_sets.specs.Index.{HasIndex, index_from, set_index, colex}
 use Rattle.vp_sets.proofs.Colex.{Numbered, numbered, at_index, colex_count, combos_colex, set_from, set_rises, set_below}
 use Rattle.vp_sets.proofs.Walk.{has_index_lt}
 use Rattle.vp_sets.proofs.index.index_laws.Goals as goal

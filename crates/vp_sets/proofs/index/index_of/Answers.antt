@@ -1,5 +1,5 @@
-use Rattle.std.proofs.Common.{◌≡◌, ◌+◌, ◌<◌, ◌≤◌, ℕ, suc, List, length, get_or, take, refl, ap, sym, ◌∙◌, arith, add-one, Fits, w32}
-use Rattle.vp_sets.specs.Sets.{IsBelow, IsRising, choose}
+use Rattle.std.proofs.Common.{◌≡◌, ◌+◌, ◌<◌, ◌≤◌, ℕ, suc, List, length, get_or, take, ap, sym, ◌∙◌, arith, add-one}
+use Rattle.vp_sets.specs.Sets.{choose}
 use Rattle.vp_sets.specs.Index.{IsSet, index_from, set_index}
 use Rattle.vp_sets.proofs.Colex.{index-none}
 use Rattle.vp_sets.proofs.Walk.{index_take, index_take_small, take_every}

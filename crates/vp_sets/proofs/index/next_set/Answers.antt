@@ -1,8 +1,8 @@
-use Rattle.std.proofs.Common.{◌≡◌, ◌+◌, ◌-◌, ◌<◌, ◌≤◌, ◌↔◌, IsTrue, true, false, ℕ, suc, List, length, get_or, drop, set, refl, ap, sym, ◌∙◌, subst, arith, add-one, get_or-set_same}
+use Rattle.std.proofs.Common.{◌≡◌, ◌+◌, ◌<◌, ◌≤◌, ℕ, List, length, get_or, drop, set, refl, ap, ◌∙◌, subst, arith, add-one, get_or-set_same}
 use Rattle.std.proofs.Math.ListN.{length-set}
 use Rattle.std.proofs.lemmas.List.{drop-set-lt}
 use Rattle.std.proofs.lemmas.Bool.{false≢true}
-use Rattle.vp_sets.specs.Sets.{IsBelow, IsRising, choose}
+use Rattle.vp_sets.specs.Sets.{choose}
 use Rattle.vp_sets.specs.Index.{HasIndex, set_index}
 use Rattle.vp_sets.proofs.Walk.{Free, Raised, raised_has_index, has_index_lt, last_index}
 use Rattle.vp_sets.proofs.index.next_set.Goals as goal

@@ -1,4 +1,4 @@
-use Rattle.std.proofs.Common.{◌≡◌, ℕ, ◌+◌, ◌<◌, ◌≤◌, length, get_or, drop}
+use Rattle.std.proofs.Common.{◌≡◌, ℕ, ◌+◌, ◌<◌, get_or, drop}
 use Rattle.vp_sets.proofs.index.next_set.Given as goal
 
 abbrev pub invariant-loop-i : goal.invariant-loop-i

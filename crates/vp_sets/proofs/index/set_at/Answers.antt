@@ -1,5 +1,5 @@
-use Rattle.std.proofs.Common.{◌≡◌, ◌+◌, ◌-◌, ◌<◌, ◌≤◌, ℕ, suc, List, length, refl, ap, sym, ◌∙◌, subst, arith, set}
-use Rattle.vp_sets.specs.Sets.{IsBelow, IsRising, choose}
+use Rattle.std.proofs.Common.{◌-◌, ◌<◌, ◌≤◌, length, sym, subst, arith, set}
+use Rattle.vp_sets.specs.Sets.{choose}
 use Rattle.vp_sets.proofs.Walk.{Filling, filling_start, filling_top, filling_skip, filling_take, filling_done}
 use Rattle.vp_sets.proofs.index.set_at.Goals as goal
 
