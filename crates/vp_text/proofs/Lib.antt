@@ -7,3 +7,7 @@ pub mod Whole
 pub mod Writing
 pub mod Room
 pub mod Given
+pub mod Pieces
+pub mod Numbers
+pub mod WithWords
+pub mod Standing

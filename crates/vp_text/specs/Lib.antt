@@ -1,4 +1,6 @@
 pub mod Lines
 pub mod Sections
 pub mod Reading
+pub mod Pieces
+pub mod Numbers
 pub mod Written

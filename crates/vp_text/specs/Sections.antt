@@ -69,6 +69,24 @@ pub record Exact {A : Type 0} (spell : A → Text) (Valid : A → Type 0) (read 
   pub again : (before left : Feed) (value : A) → Valid value → Starts spell before value left → read before ≡ Ok (value, left)
   pub stops : (feed : Feed) (refused : ℕ) → read feed ≡ Err refused → Refuses spell Valid feed refused
 
+-- ---- where a reader stands
+
+-- some lines were read from the front, and these are left
+pub record Leaves (before left : Feed) : Type 0 where
+  pub front : List WordLine
+  pub lines : before.lines ≡ front ++ left.lines
+  pub past : left.past ≡ before.past
+  pub last : left.last ≡ last_of front before.last
+
+-- the refused line was given last, or it is the one past the end and no line is left
+abbrev pub IsAt : ℕ → Feed → Type 0
+IsAt refused left = (refused ≡ left.last) ⊎ ((refused ≡ left.past) × (left.lines ≡ []))
+
+-- A reader that refused a line stands behind that line, or at the end of the text where the input ended too early.
+pub record StandsBehind (before : Feed) (refused : ℕ) (left : Feed) : Type 0 where
+  pub read : Leaves before left
+  pub at : IsAt refused left
+
 -- ---- a section, and then one that depends on its value
 
 abbrev pub both_text : {A B : Type 0} → (A → Text) → (A → B → Text) → A × B → Text

@@ -8,6 +8,11 @@ use Rattle.vp_text.specs.Sections.{Text}
 abbrev pub with_word : List ℕ → Word → List ℕ
 with_word line word = if is_empty line then word else line ++ 32 ∷ word
 
+-- a line, and these words at its end
+abbrev pub with_words : List ℕ → List Word → List ℕ
+with_words line [] = line
+with_words line (word ∷ words) = with_words (with_word line word) words
+
 -- words, with one space between
 abbrev pub spaced : List Word → List ℕ
 spaced [] = []

@@ -4,6 +4,7 @@
 mod cutting;
 mod laws;
 mod lines;
+mod next_words;
 mod numerals;
 mod out;
 mod refused;
@@ -13,6 +14,7 @@ pub use laws::{
     spelling_unique, whole_exact, words_spaced, written_again, written_read,
 };
 pub use lines::{Lines, Words};
+pub use next_words::{key_word, next_number, next_number_within};
 pub use numerals::number;
 pub use out::Out;
 pub use refused::Refused;

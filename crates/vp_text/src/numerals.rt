@@ -1,11 +1,13 @@
 //! Numbers in words.
 
 ghost use Rattle.std.specs.Prelude.{◌≡◌, ◌<◌, ◌^◌, ℕ, decimal, IfSome, IfNone};
+ghost use Rattle.vp_text.specs.Numbers.{number_of};
 
 use itoa::Buffer;
 
 /// The number that is written in decimal digits without a sign and without a leading zero.
 pub fn number(text: &[u8]) -> Option<u64>
+    ensures value { result ≡ number_of text.now }
     // A number that is read is written so.
     ensures found { IfSome result (λ value. text.now ≡ decimal value) }
     // Nothing is read exactly where no number below 2^64 is written so.
