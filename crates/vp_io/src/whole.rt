@@ -1,8 +1,9 @@
 // Whole texts: all bytes of a source, and a text put to a sink.
 ghost use Rattle.std.specs.Prelude.{◌≡◌, ◌⊎◌, ◌+◌, ◌-◌, ◌≤◌, ◌++◌, ℕ, List, length, IfOk, OnOk, OnErr, IsErrOf};
-ghost use Rattle.std.specs.Io.KnownBytes.{Appends, Consumes, IsAtEnd};
-ghost use Rattle.vp_io.specs.Causes.{Rose, HasCause};
-ghost use Rattle.vp_io.specs.Streams.{Gave, GaveUpTo, GaveAll, TookPart};
+ghost use Rattle.std.specs.Io.KnownBytes.{Consumes, IsAtEnd};
+ghost use Rattle.vp_io.specs.Causes.{Rose};
+ghost use Rattle.vp_io.specs.Streams.{Gave, GaveUpTo, GaveAll};
+ghost use Rattle.vp_io.specs.Puts.{Puts};
 
 use crate::{Failed, ReadStop, Sink, Source, WriteFault};
 use std::alloc::Global;
@@ -65,9 +66,8 @@ fn read_more<S: Source>(
 
 /// Puts the bytes to the sink, in order. It asks again until all are taken.
 pub fn put<K: Sink>(sink: &mut K, bytes: &[u8]) -> Result<(), WriteFault>
-    ensures all { OnOk result (Appends (K.taken sink.old) (K.taken sink.new) bytes.now) }
-    ensures part { OnErr result (TookPart (K.taken sink.old) (K.taken sink.new) bytes.now) }
-    ensures cause { HasCause (K.faults sink.old) (K.faults sink.new) result }
+    // All of them are taken; or a proper beginning of them, and a fault is counted.
+    ensures { Puts (K.taken sink.old) (K.taken sink.new) (K.faults sink.old) (K.faults sink.new) result bytes.now }
 {
     let mut rest = bytes;
     while !rest.is_empty() {
