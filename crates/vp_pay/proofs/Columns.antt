@@ -4,7 +4,7 @@ use Rattle.std.proofs.lemmas.List.{append-nil, take-append-drop, drop_more, drop
 use Rattle.std.proofs.Math.Seq.{take-suc-set}
 use Rattle.std.specs.Prelude.{Option, option_map}
 use Rattle.vp_text.specs.Lines.{Word}
-use Rattle.vp_pay.specs.Pieces.{◌>>=◌, one_word, so_many}
+use Rattle.vp_text.specs.Pieces.{◌>>=◌, one_word, so_many}
 use Rattle.vp_pay.specs.Reading.{payment_of, columns_piece}
 
 -- the payments so far, in front of those that are still to be read

@@ -16,13 +16,14 @@ use Rattle.vp_text.specs.declared.refused.Refused.{Refused}
 use Rattle.vp_text.proofs.Sections.{Exact-line}
 use Rattle.vp_text.proofs.Spelled.{ok_is, ok_err, bind_ok, bind_err}
 use Rattle.vp_pay.specs.Deal.{IsDeal, IsDealt}
-use Rattle.vp_pay.specs.Pieces.{ExactWord, so_many}
+use Rattle.vp_text.specs.Pieces.{ExactWord, so_many}
 use Rattle.vp_pay.specs.Spelling.{deal_text}
 use Rattle.vp_pay.specs.Reading.{deal_of, hand_of}
 use Rattle.vp_pay.specs.Sections.{deal_at, hand_at}
-use Rattle.vp_pay.proofs.Pieces.{both_true, bound, at_end, chosen, no_value, so, took, Exact-key_word, Exact-so_many}
+use Rattle.vp_text.proofs.Pieces.{both_true, bound, at_end, chosen, no_value, so, took, Exact-key_word, Exact-so_many}
 
-Exact-card : ExactWord card_text (λ card. card < 53) card_of
+-- the text of a card is read as this card, and nothing else is read
+pub Exact-card : ExactWord card_text (λ card. card < 53) card_of
 Exact-card = record { takes = λ text card read. text-card_of text card read; again = λ card is. card_of-text card is }
 
 cards_below : (n : ℕ) (cards : List ℕ) → n ≤ 53 → in_deck n cards ≡ true → AllByRecursion (λ card. card < 53) cards

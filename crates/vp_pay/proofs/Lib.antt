@@ -1,10 +1,9 @@
 pub mod BuiltIns
+pub mod Cards
 pub mod Columns
 pub mod Deals
-pub mod Numbers
 pub mod Patterns
 pub mod PayLines
-pub mod Pieces
 pub mod Plain
 pub mod Puts
 pub mod Tables

@@ -9,11 +9,11 @@ use Rattle.vp_card.specs.Texts.{rank_set_text}
 use Rattle.vp_text.specs.Lines.{Word, next_is}
 use Rattle.vp_pay.specs.declared.pattern.Pattern.{Pattern}
 use Rattle.vp_pay.specs.declared.pattern.Pattern.TheVariants.{Royal, StraightFlush, FiveKind, Wilds, Quads, FullHouse, Flush, Straight, Trips, TwoPair, Pair}
-use Rattle.vp_pay.specs.Pieces.{ExactPiece}
+use Rattle.vp_text.specs.Pieces.{ExactPiece}
 use Rattle.vp_pay.specs.Spelling.{kicker_words, pattern_words}
 use Rattle.vp_pay.specs.Reading.{plain_of, kicker_piece, wilds_of, wilds_piece, quads_piece, set_piece, pattern_behind, pattern_piece}
 use Rattle.vp_pay.specs.Table.{is_kicker, is_pattern}
-use Rattle.vp_pay.proofs.Pieces.{both_true, bound, chosen, no_value, so, took, Exact-one_word, Exact-key_word}
+use Rattle.vp_text.proofs.Pieces.{both_true, bound, chosen, no_value, so, took, Exact-one_word, Exact-key_word}
 use Rattle.vp_pay.proofs.Values.{Exact-rank_set, Exact-one_to_five, plain_word}
 
 -- the next word is not `kicker`

@@ -12,13 +12,12 @@ use Rattle.vp_text.specs.Sections.{ExactLine}
 use Rattle.vp_pay.specs.declared.pattern.Qualifier.{Qualifier}
 use Rattle.vp_pay.specs.declared.pattern.Qualifier.TheVariants.{Either, Natural, Wild}
 use Rattle.vp_pay.specs.declared.table.PayLine.{PayLine}
-use Rattle.vp_pay.specs.Pieces.{ExactPiece, AreMany}
+use Rattle.vp_text.specs.Pieces.{ExactPiece, AreMany}
 use Rattle.vp_pay.specs.Spelling.{pattern_words, qualifier_word, line_words}
 use Rattle.vp_pay.specs.Reading.{pattern_piece, columns_piece, pay_line_of}
 use Rattle.vp_pay.specs.Table.{ArePays, IsPayLine}
-use Rattle.vp_pay.proofs.Pieces.{both_true, bound, at_end, so, took, Exact-one_word, Exact-so_many, Exact-key_word}
-use Rattle.vp_pay.proofs.Numbers.{Exact-payment}
-use Rattle.vp_pay.proofs.Values.{Exact-name, Exact-qualifier}
+use Rattle.vp_text.proofs.Pieces.{both_true, bound, at_end, so, took, Exact-one_word, Exact-so_many, Exact-key_word}
+use Rattle.vp_pay.proofs.Values.{Exact-name, Exact-payment, Exact-qualifier}
 use Rattle.vp_pay.proofs.Patterns.{Exact-pattern, no_kicker}
 
 -- so many payments, each at most 500000

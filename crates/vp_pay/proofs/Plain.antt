@@ -21,7 +21,7 @@ use Rattle.vp_pay.specs.declared.table.PayTable.{PayTable}
 use Rattle.vp_pay.specs.Names.{is_letter, is_name_byte, is_name}
 use Rattle.vp_pay.specs.Spelling.{kicker_words, pattern_words, qualifier_word, wild_word, line_words, table_text}
 use Rattle.vp_pay.specs.Table.{is_kicker, is_pattern, IsPayLine, IsTable}
-use Rattle.vp_pay.proofs.Pieces.{both_true}
+use Rattle.vp_text.proofs.Pieces.{both_true}
 use Rattle.vp_pay.proofs.PayLines.{unpadded}
 use Rattle.vp_pay.proofs.Tables.{of_all}
 

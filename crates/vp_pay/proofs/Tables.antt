@@ -24,7 +24,7 @@ use Rattle.vp_pay.specs.Spelling.{wild_word, line_words, table_text}
 use Rattle.vp_pay.specs.Reading.{has_name, next_line_of}
 use Rattle.vp_pay.specs.Sections.{name_line, deck_line, wild_line, coins_line, some_lines, pay_lines, Parts, table_of, parts_at, table_at}
 use Rattle.vp_pay.specs.Table.{IsPayLine, IsTable}
-use Rattle.vp_pay.proofs.Pieces.{both_true, bound, chosen, no_value, so, Exact-keyed}
+use Rattle.vp_text.proofs.Pieces.{both_true, bound, chosen, no_value, so, Exact-keyed}
 use Rattle.vp_pay.proofs.Values.{Exact-name, Exact-deck, Exact-wild, Exact-one_to_five}
 use Rattle.vp_pay.proofs.PayLines.{ArePayments, padded, Exact-pay_line}
 

@@ -1,9 +1,8 @@
 -- Words that are one value each.
-use Rattle.std.proofs.Common.{◌≡◌, ℕ, ◌-◌, ◌+◌, ◌<◌, ◌≤◌, Bool, true, false, nat_le, ◌&&◌, [], ◌∷◌, refl, ap, sym, ◌∙◌, arith, Some, None, IfSome, get_or, ⊎_elim, eqb, ◌≢◌}
+use Rattle.std.proofs.Common.{◌≡◌, ℕ, ◌<◌, ◌≤◌, Bool, true, false, ◌&&◌, [], ◌∷◌, refl, ap, sym, arith, Some, None, IfSome, get_or, ⊎_elim, eqb, ◌≢◌}
 use Rattle.std.specs.Prelude.{Option, option_map, bytes_eq, codes}
 use Rattle.std.specs.Fmt.{decimal, digits}
-use Rattle.std.proofs.lemmas.Fmt.{decimal_digit}
-use Rattle.std.proofs.lemmas.Bool.Decides.{nat_tests, eqb_tells}
+use Rattle.std.proofs.lemmas.Bool.Decides.{eqb_tells}
 use Rattle.vp_card.specs.Cards.{is_rank_set}
 use Rattle.vp_card.specs.Texts.{rank_set_text, rank_letters}
 use Rattle.vp_card.specs.Reading.{rank_of, rank_set_of}
@@ -15,11 +14,12 @@ use Rattle.vp_pay.specs.declared.pattern.Pattern.TheVariants.{Royal, StraightFlu
 use Rattle.vp_pay.specs.declared.pattern.Qualifier.{Qualifier}
 use Rattle.vp_pay.specs.declared.pattern.Qualifier.TheVariants.{Either, Natural, Wild}
 use Rattle.vp_pay.specs.Names.{is_name}
-use Rattle.vp_pay.specs.Pieces.{ExactWord}
+use Rattle.vp_text.specs.Pieces.{ExactWord}
 use Rattle.vp_pay.specs.Spelling.{qualifier_word, wild_word, pattern_words}
-use Rattle.vp_pay.specs.Reading.{name_of, deck_of, one_to_five, letter_of_rank, wild_of, qualifier_of, plain_of}
+use Rattle.vp_pay.specs.Reading.{name_of, deck_of, one_to_five, payment_of, letter_of_rank, wild_of, qualifier_of, plain_of}
 use Rattle.vp_pay.specs.Table.{is_pattern}
-use Rattle.vp_pay.proofs.Pieces.{by_key, chosen, same_value, no_value}
+use Rattle.vp_text.proofs.Numbers.{number_within_exact}
+use Rattle.vp_text.proofs.Pieces.{by_key, chosen, same_value, no_value}
 
 pub Exact-rank_set : ExactWord rank_set_text (λ set. is_rank_set set ≡ true) rank_set_of
 Exact-rank_set = record { takes = λ text set read. text-rank_set_of text set read; again = λ set is_set. rank_set_of-text set is_set }
@@ -41,33 +41,18 @@ Exact-deck = record {
   again = λ deck is. ⊎_elim (λ (t : (eqb deck 52 ≡ true) × (deck ≡ 52)). rw t.1) (λ (t : (eqb deck 52 ≡ false) × (deck ≢ 52)). let e : deck ≡ 53 = omega arith in rw e) (eqb_tells deck 52);
 }
 
--- ---- a digit from 1 to 5
-
-digit_read : (text : Word) (n : ℕ) → one_to_five text ≡ Some n → ((1 ≤ n) × (n ≤ 5)) × (decimal n ≡ text)
-unfolding one_to_five
-digit_read [] n read = absurd (no_value n read)
-digit_read (digit ∷ []) n read =
-    chosen (λ m. ((1 ≤ m) × (m ≤ 5)) × (decimal m ≡ digit ∷ [])) (nat_le 49 digit && nat_le digit 53) (Some (digit - 48)) None n read
-    (λ is e.
-    let low : 49 ≤ digit = grind (arith, nat_tests)
-    in let high : digit ≤ 53 = grind (arith, nat_tests)
-    in let same : digit - 48 ≡ n = cc
-    in let back : 48 + n ≡ digit = omega arith
-    in ((omega arith, omega arith), decimal_digit n (omega arith) ∙ ap (λ d. d ∷ []) back))
-    (λ none. absurd (no_value n none))
-digit_read (digit ∷ other ∷ more) n read = absurd (no_value n read)
-
-digit_again : (n : ℕ) → 1 ≤ n → n ≤ 5 → one_to_five ((48 + n) ∷ []) ≡ Some n
-unfolding one_to_five
-digit_again n low high =
-    let test : (nat_le 49 (48 + n) && nat_le (48 + n) 53) ≡ true = grind (arith, nat_tests)
-    in rw test (ap Some (omega arith))
+-- ---- numbers
 
 pub Exact-one_to_five : ExactWord decimal (λ n. (1 ≤ n) × (n ≤ 5)) one_to_five
-Exact-one_to_five = record {
-  takes = λ text n read. digit_read text n read;
-  again = λ n is. ap one_to_five (decimal_digit n (omega arith)) ∙ digit_again n is.0 is.1;
-}
+Exact-one_to_five = number_within_exact 1 5 (omega arith)
+
+pub Exact-payment : ExactWord decimal (λ pay. pay ≤ 500000) payment_of
+Exact-payment =
+    let exact = number_within_exact 0 500000 (omega arith)
+    in record {
+      takes = λ text pay read. let t = exact.takes text pay read in (t.0.1, t.1);
+      again = λ pay is. exact.again pay (omega arith, is);
+    }
 
 -- ---- the wild rank
 

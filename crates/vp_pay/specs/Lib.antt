@@ -1,9 +1,7 @@
 pub mod BuiltIn
 pub mod Deal
 pub mod Names
-pub mod Pieces
 pub mod Reading
 pub mod Sections
 pub mod Spelling
 pub mod Table
-pub mod Writing

@@ -1,14 +1,12 @@
 -- How a pay table and a deal line are read from left to right.
-use Rattle.std.specs.Prelude.{ℕ, ◌-◌, Bool, not, ◌&&◌, ◌==◌, nat_le, nat_lt, List, [], ◌∷◌, ◌++◌, map, length, replicate, Option, Some, None, option_map, bytes_eq, codes, if◌then◌else◌}
+use Rattle.std.specs.Prelude.{ℕ, ◌-◌, Bool, not, ◌&&◌, ◌==◌, nat_lt, List, [], ◌∷◌, ◌++◌, length, replicate, Option, Some, None, option_map, bytes_eq, codes, if◌then◌else◌}
 use Rattle.std.specs.List.{list_any}
-use Rattle.std.specs.Fmt.{decimal}
-use Rattle.std.specs.Char.{digit_value}
-use Rattle.std.specs.Int.Digits.{number_from_digits}
 use Rattle.vp_card.specs.Cards.{in_deck, all_differ, in_order}
 use Rattle.vp_card.specs.Reading.{rank_of, rank_set_of, card_of}
 use Rattle.vp_text.specs.Lines.{Word, next_is}
+use Rattle.vp_text.specs.Numbers.{number_within}
+use Rattle.vp_text.specs.Pieces.{Piece, ◌>>=◌, one_word, so_many, key_word, ended}
 use Rattle.vp_pay.specs.Names.{is_name}
-use Rattle.vp_pay.specs.Pieces.{Piece, ◌>>=◌, one_word, so_many, key_word, ended}
 use Rattle.vp_pay.specs.declared.pattern.Pattern.{Pattern}
 use Rattle.vp_pay.specs.declared.pattern.Pattern.TheVariants.{Royal, StraightFlush, FiveKind, Wilds, Quads, FullHouse, Flush, Straight, Trips, TwoPair, Pair}
 use Rattle.vp_pay.specs.declared.pattern.Qualifier.{Qualifier}
@@ -25,9 +23,8 @@ unfoldable pub deck_of : Word → Option ℕ
 deck_of text = if bytes_eq text (codes "52") then Some 52 else (if bytes_eq text (codes "53") then Some 53 else None)
 
 -- a number from 1 to 5
-unfoldable pub one_to_five : Word → Option ℕ
-one_to_five (digit ∷ []) = if nat_le 49 digit && nat_le digit 53 then Some (digit - 48) else None
-one_to_five _ = None
+abbrev pub one_to_five : Word → Option ℕ
+one_to_five = number_within 1 5
 
 abbrev pub letter_of_rank : Word → Option (Option ℕ)
 letter_of_rank (letter ∷ []) = option_map Some (rank_of letter)
@@ -100,13 +97,9 @@ pattern_piece (word ∷ words) = pattern_behind word words
 
 -- ---- payments
 
--- the number that a text's digits have
-abbrev pub digits_number : Word → ℕ
-digits_number text = number_from_digits 10 (map digit_value text)
-
--- a payment: a number up to 500000 in its decimal digits
-unfoldable pub payment_of : Word → Option ℕ
-payment_of text = if bytes_eq text (decimal (digits_number text)) && nat_le (digits_number text) 500000 then Some (digits_number text) else None
+-- a payment: a number up to 500000
+abbrev pub payment_of : Word → Option ℕ
+payment_of = number_within 0 500000
 
 -- payments for all five columns; those above the table's coins are 0
 unfoldable pub columns_piece : ℕ → Piece (List ℕ)

@@ -4,20 +4,21 @@ ghost use Rattle.std.specs.Prelude.{◌≡◌, ℕ, ◌≤◌, List, Ok, IfOk, I
 ghost use Rattle.vp_card.specs.Cards.{in_deck, in_order};
 ghost use Rattle.vp_card.specs.Reading.{card_of};
 ghost use Rattle.vp_text.specs.Lines.{Feed};
-ghost use Rattle.vp_text.specs.Sections.{Starts, Refuses};
+ghost use Rattle.vp_text.specs.Sections.{Starts, Refuses, Leaves, IsAt, StandsBehind};
 ghost use Rattle.vp_text.specs.Reading.{Gives};
-ghost use Rattle.vp_pay.specs.Pieces.{Takes, one_word, so_many};
+ghost use Rattle.vp_text.specs.Pieces.{Takes, one_word, so_many};
 ghost use Rattle.vp_pay.specs.Reading.{hand_of};
 ghost use Rattle.vp_pay.specs.Sections.{hand_at};
 ghost use Rattle.vp_pay.specs.Spelling.{deal_text};
 ghost use Rattle.vp_pay.specs.Deal.{IsDeal, IsDealt};
 
-use crate::pay_line::key_word;
 use vp_card::{Card, Hand};
-use vp_text::{Lines, Refused, Words};
+use vp_text::{Lines, Refused, Words, key_word};
 
-fn card(words: &mut Words) -> Option<Card>
-    ensures { Takes (λ c. c) result words.new.words (one_word card_of words.old.words) }
+/// Takes the next word, which is to be a card's text.
+pub fn next_card(words: &mut Words) -> Option<Card>
+    ensures line { words.new.line ≡ words.old.line }
+    ensures takes { Takes (λ c. c) result words.new.words (one_word card_of words.old.words) }
 {
     let word = words.next()?;
     Card::read(word)
@@ -26,11 +27,11 @@ fn card(words: &mut Words) -> Option<Card>
 fn five_cards(words: &mut Words) -> Option<[Card; 5]>
     ensures { Takes (λ cards. cards) result words.new.words (so_many card_of 5 words.old.words) }
 {
-    let first = card(words)?;
-    let second = card(words)?;
-    let third = card(words)?;
-    let fourth = card(words)?;
-    let fifth = card(words)?;
+    let first = next_card(words)?;
+    let second = next_card(words)?;
+    let third = next_card(words)?;
+    let fourth = next_card(words)?;
+    let fifth = next_card(words)?;
     Some([first, second, third, fourth, fifth])
 }
 
@@ -52,9 +53,11 @@ fn hand_of(words: &mut Words, deck: u8) -> Option<Hand>
     Hand::of(cards)
 }
 
-#[tactic(auto, unfolding(crate::specs::Sections::hand_at))]
+#[tactic(auto, unfolding(crate::specs::Sections::hand_at), using(vp_text::proofs::Standing::leaves_all, vp_text::proofs::Standing::leaves_line))]
 fn hand_at(lines: &mut Lines, deck: u8) -> Result<Hand, Refused>
-    ensures { Gives (λ h. h) result lines.new (hand_at deck lines.old) }
+    ensures read { Gives (λ h. h) result lines.new (hand_at deck lines.old) }
+    ensures leaves { Leaves lines.old lines.new }
+    ensures at { IfErr result (λ e. IsAt e.line lines.new) }
 {
     let Some(mut words) = lines.next() else {
         return Err(Refused { line: lines.past() });
@@ -76,6 +79,8 @@ pub fn read_deal(lines: &mut Lines, deck: u8) -> Result<Hand, Refused>
     ensures only { (cards : List ℕ) (left : Feed) → IsDeal deck cards → Starts deal_text lines.old cards left → (result ≡ Ok (in_order cards)) × (lines.new ≡ left) }
     // Refused is the line where it begins no deal line, or the one past the end where there is none.
     ensures refused { IfErr result (λ e. Refuses deal_text (IsDeal deck) lines.old e.line) }
+    // Where a line is refused, the lines behind it are left; none are where the input ends first.
+    ensures stands { IfErr result (λ e. StandsBehind lines.old e.line lines.new) }
     ensures exact { Gives (λ hand. hand) result lines.new (hand_at deck lines.old) }
 {
     hand_at(lines, deck)

@@ -1,6 +1,6 @@
 //! A name of a pay table or of a pay line.
 
-ghost use Rattle.std.specs.Prelude.{◌≡◌, ◌≤◌, length, Some, None, if◌then◌else◌, true};
+ghost use Rattle.std.specs.Prelude.{◌≡◌, ◌≤◌, length, Some, None, if◌then◌else◌, true, codes};
 ghost use Rattle.std.specs.List.{list_all};
 ghost use Rattle.vp_pay.specs.Names.{is_letter, is_name_byte, is_name};
 
@@ -52,7 +52,10 @@ impl Name {
 }
 
 impl Default for Name {
-    fn default() -> Name {
+    /// The name `a`.
+    fn default() -> Name
+        ensures { result ≡ codes "a" }
+    {
         let mut bytes = ArrayVec::new();
         bytes.push(b'a');
         Name { bytes }

@@ -1,22 +1,15 @@
 //! The pieces of a pay line, read from the front of its words.
 
-ghost use Rattle.std.specs.Prelude.{◌≡◌, ◌≤◌, ◌<◌, codes, Option, length};
-ghost use Rattle.vp_pay.specs.Pieces.{Takes, one_word, so_many, key_word, ended};
-ghost use Rattle.vp_pay.specs.Reading.{name_of, qualifier_of, payment_of, kicker_piece, wilds_of, wilds_piece, quads_piece, set_piece, pattern_behind, pattern_piece, columns_piece, pay_line_of};
+ghost use Rattle.std.specs.Prelude.{◌≡◌, ◌≤◌, ◌<◌, codes, Option, IfSome, length};
+ghost use Rattle.vp_text.specs.Pieces.{Takes, one_word, so_many, key_word, ended};
+ghost use Rattle.vp_pay.specs.Reading.{name_of, one_to_five, qualifier_of, payment_of, kicker_piece, wilds_of, wilds_piece, quads_piece, set_piece, pattern_behind, pattern_piece, columns_piece, pay_line_of};
 ghost use Rattle.vp_card.specs.Reading.{rank_set_of};
 ghost use Rattle.vp_pay.specs.declared.pattern.Pattern.TheVariants.{FiveKind, Pair};
 
-use crate::words::{one_to_five, payment_of, plain_of, qualifier_of};
+use crate::words::{plain_of, qualifier_of};
 use crate::{Name, Pattern, PayLine, Qualifier};
 use vp_card::RankSet;
-use vp_text::Words;
-
-pub(crate) fn key_word(words: &mut Words, key: &[u8]) -> Option<()>
-    ensures { Takes (λ u. tt) result words.new.words (key_word key.now words.old.words) }
-{
-    let word = words.next()?;
-    if word == key { Some(()) } else { None }
-}
+use vp_text::{Words, key_word, next_number_within};
 
 #[tactic(auto, unfolding(crate::specs::Reading::name_of))]
 pub(crate) fn name(words: &mut Words) -> Option<Name>
@@ -24,6 +17,14 @@ pub(crate) fn name(words: &mut Words) -> Option<Name>
 {
     let word = words.next()?;
     Name::read(word)
+}
+
+pub(crate) fn one_to_five(words: &mut Words) -> Option<u8>
+    ensures takes { Takes (λ n. n) result words.new.words (one_word one_to_five words.old.words) }
+    ensures range { IfSome result (λ n. (1 ≤ n) × (n ≤ 5)) }
+{
+    let value = next_number_within(words, 1, 5)?;
+    Some(value as u8)
 }
 
 fn rank_set(words: &mut Words) -> Option<RankSet>
@@ -56,7 +57,7 @@ fn kicker(words: &mut Words) -> Option<Option<RankSet>>
 fn wilds(words: &mut Words) -> Option<Pattern>
     ensures { Takes (λ p. p) result words.new.words (wilds_piece words.old.words) }
 {
-    let count = one_to_five(words.next()?)?;
+    let count = one_to_five(words)?;
     let kicker = kicker(words)?;
     if kicker.is_some() && count != 4 {
         return None;
@@ -103,8 +104,8 @@ fn pattern(words: &mut Words) -> Option<Pattern>
 fn payment(words: &mut Words) -> Option<u32>
     ensures { Takes (λ p. p) result words.new.words (one_word payment_of words.old.words) }
 {
-    let word = words.next()?;
-    payment_of(word)
+    let value = next_number_within(words, 0, 500000)?;
+    Some(value as u32)
 }
 
 fn columns(words: &mut Words, coins: u8) -> Option<[u32; 5]>

@@ -3,19 +3,19 @@
 ghost use Rattle.std.specs.Prelude.{◌≡◌, ◌<◌, ◌≤◌, codes, ◌++◌, Some, Ok, IfOk, IfErr, IfSome, length};
 ghost use Rattle.vp_text.specs.Reading.{Gives, one_line};
 ghost use Rattle.vp_text.specs.Lines.{Feed};
-ghost use Rattle.vp_text.specs.Sections.{Text, Starts, Refuses};
-ghost use Rattle.vp_pay.specs.Pieces.{keyed};
+ghost use Rattle.vp_text.specs.Sections.{Text, Starts, Refuses, Leaves, IsAt, StandsBehind};
+ghost use Rattle.vp_text.specs.Pieces.{keyed};
 ghost use Rattle.vp_pay.specs.Reading.{name_of, deck_of, wild_of, one_to_five, next_line_of, has_name};
 ghost use Rattle.vp_pay.specs.Sections.{name_line, deck_line, wild_line, coins_line, pay_lines, table_at};
 ghost use Rattle.vp_pay.specs.Spelling.{table_text};
 ghost use Rattle.vp_pay.specs.Table.{IsTable};
 ghost use Rattle.vp_pay.specs.declared.table.PayTable.{PayTable};
 
-use crate::pay_line::{key_word, name, pay_line_of};
-use crate::words::{deck_of, one_to_five, wild_of};
+use crate::pay_line::{name, one_to_five, pay_line_of};
+use crate::words::{deck_of, wild_of};
 use crate::{Name, PayLine, PayTable};
 use arrayvec::ArrayVec;
-use vp_text::{Lines, Refused, Words};
+use vp_text::{Lines, Refused, Words, key_word};
 
 fn table_name(words: &mut Words) -> Option<Name>
     ensures { result ≡ keyed (codes "table") name_of words.old.words }
@@ -28,8 +28,11 @@ fn table_name(words: &mut Words) -> Option<Name>
     Some(name)
 }
 
+#[tactic(auto, using(vp_text::proofs::Standing::leaves_all, vp_text::proofs::Standing::leaves_line))]
 fn name_line(lines: &mut Lines) -> Result<Name, Refused>
-    ensures { Gives (λ n. n) result lines.new (name_line lines.old) }
+    ensures read { Gives (λ n. n) result lines.new (name_line lines.old) }
+    ensures leaves { Leaves lines.old lines.new }
+    ensures at { IfErr result (λ e. IsAt e.line lines.new) }
 {
     let Some(mut words) = lines.next() else {
         return Err(Refused { line: lines.past() });
@@ -52,8 +55,11 @@ fn deck(words: &mut Words) -> Option<u8>
     Some(value)
 }
 
+#[tactic(auto, using(vp_text::proofs::Standing::leaves_all, vp_text::proofs::Standing::leaves_line))]
 fn deck_line(lines: &mut Lines) -> Result<u8, Refused>
-    ensures { Gives (λ v. v) result lines.new (deck_line lines.old) }
+    ensures read { Gives (λ v. v) result lines.new (deck_line lines.old) }
+    ensures leaves { Leaves lines.old lines.new }
+    ensures at { IfErr result (λ e. IsAt e.line lines.new) }
 {
     let Some(mut words) = lines.next() else {
         return Err(Refused { line: lines.past() });
@@ -76,8 +82,11 @@ fn wild(words: &mut Words) -> Option<Option<u8>>
     Some(value)
 }
 
+#[tactic(auto, using(vp_text::proofs::Standing::leaves_all, vp_text::proofs::Standing::leaves_line))]
 fn wild_line(lines: &mut Lines) -> Result<Option<u8>, Refused>
-    ensures { Gives (λ v. v) result lines.new (wild_line lines.old) }
+    ensures read { Gives (λ v. v) result lines.new (wild_line lines.old) }
+    ensures leaves { Leaves lines.old lines.new }
+    ensures at { IfErr result (λ e. IsAt e.line lines.new) }
 {
     let Some(mut words) = lines.next() else {
         return Err(Refused { line: lines.past() });
@@ -94,15 +103,18 @@ fn coins(words: &mut Words) -> Option<u8>
     ensures range { IfSome result (λ coins. coins ≤ 5) }
 {
     key_word(words, b"coins")?;
-    let value = one_to_five(words.next()?)?;
+    let value = one_to_five(words)?;
     if words.next().is_some() {
         return None;
     }
     Some(value)
 }
 
+#[tactic(auto, using(vp_text::proofs::Standing::leaves_all, vp_text::proofs::Standing::leaves_line))]
 fn coins_line(lines: &mut Lines) -> Result<u8, Refused>
     ensures read { Gives (λ v. v) result lines.new (coins_line lines.old) }
+    ensures leaves { Leaves lines.old lines.new }
+    ensures at { IfErr result (λ e. IsAt e.line lines.new) }
     ensures range { IfOk result (λ coins. coins ≤ 5) }
 {
     let Some(mut words) = lines.next() else {
@@ -139,7 +151,9 @@ fn next_line(words: &mut Words, coins: u8, lines: &[PayLine]) -> Option<PayLine>
 
 fn pay_lines(lines: &mut Lines, coins: u8) -> Result<ArrayVec<PayLine, 32>, Refused>
     requires { coins ≤ 5 }
-    ensures { Gives (λ ls. ls.items) result lines.new (pay_lines coins lines.old) }
+    ensures read { Gives (λ ls. ls.items) result lines.new (pay_lines coins lines.old) }
+    ensures leaves { Leaves lines.old lines.new }
+    ensures at { IfErr result (λ e. IsAt e.line lines.new) }
 {
     let mut pay_lines = ArrayVec::new();
     while let Some(mut words) = lines.next() {
@@ -160,7 +174,9 @@ fn pay_lines(lines: &mut Lines, coins: u8) -> Result<ArrayVec<PayLine, 32>, Refu
 
 #[tactic(auto, unfolding(crate::specs::Sections::table_at))]
 fn table_at(lines: &mut Lines) -> Result<PayTable, Refused>
-    ensures { Gives (λ t. t) result lines.new (table_at lines.old) }
+    ensures read { Gives (λ t. t) result lines.new (table_at lines.old) }
+    ensures leaves { Leaves lines.old lines.new }
+    ensures at { IfErr result (λ e. IsAt e.line lines.new) }
 {
     let name = name_line(lines)?;
     let deck = deck_line(lines)?;
@@ -185,6 +201,8 @@ impl PayTable {
         ensures only { (t : PayTable) (left : Feed) → IsTable t → Starts table_text lines.old t left → (result ≡ Ok t) × (lines.new ≡ left) }
         // Refused is the first line with which the lines so far begin no table, or the one past the end where the input ends first.
         ensures refused { IfErr result (λ e. Refuses table_text IsTable lines.old e.line) }
+        // Where a line is refused, the lines behind it are left; none are where the input ends first.
+        ensures stands { IfErr result (λ e. StandsBehind lines.old e.line lines.new) }
         ensures exact { Gives (λ t. t) result lines.new (table_at lines.old) }
     {
         table_at(lines)

@@ -1,11 +1,10 @@
 //! Words of a pay table that are one value each.
 
-ghost use Rattle.std.specs.Prelude.{◌≡◌, ◌≤◌, IfSome, ◌<◌, option_map};
-ghost use Rattle.vp_pay.specs.Reading.{deck_of, one_to_five, wild_of, letter_of_rank, qualifier_of, plain_of, payment_of};
+ghost use Rattle.std.specs.Prelude.{◌≡◌, option_map};
+ghost use Rattle.vp_pay.specs.Reading.{deck_of, wild_of, letter_of_rank, qualifier_of, plain_of};
 
 use crate::{Pattern, Qualifier};
 use vp_card::rank_of;
-use vp_text::number;
 
 #[tactic(auto, unfolding(crate::specs::Reading::deck_of))]
 pub(crate) fn deck_of(text: &[u8]) -> Option<u8>
@@ -15,21 +14,6 @@ pub(crate) fn deck_of(text: &[u8]) -> Option<u8>
         Some(52)
     } else if text == b"53".as_slice() {
         Some(53)
-    } else {
-        None
-    }
-}
-
-#[tactic(auto, unfolding(crate::specs::Reading::one_to_five))]
-pub(crate) fn one_to_five(text: &[u8]) -> Option<u8>
-    ensures value { result ≡ one_to_five text.now }
-    ensures range { IfSome result (λ n. (1 ≤ n) × (n ≤ 5)) }
-{
-    let [digit] = text else {
-        return None;
-    };
-    if b'1' <= *digit && *digit <= b'5' {
-        Some(*digit - b'0')
     } else {
         None
     }
@@ -89,19 +73,6 @@ pub(crate) fn plain_of(text: &[u8]) -> Option<Pattern>
         Some(Pattern::Trips)
     } else if text == b"two-pair".as_slice() {
         Some(Pattern::TwoPair)
-    } else {
-        None
-    }
-}
-
-pub(crate) fn payment_of(text: &[u8]) -> Option<u32>
-    ensures { result ≡ payment_of text.now }
-{
-    let Some(value) = number(text) else {
-        return None;
-    };
-    if value <= 500000 {
-        Some(value as u32)
     } else {
         None
     }

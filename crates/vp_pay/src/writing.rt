@@ -1,24 +1,21 @@
 //! Pay tables, written line by line.
 
-ghost use Rattle.std.specs.Prelude.{◌≡◌, ◌+◌, ◌<◌, ◌≤◌, [], ◌∷◌, ◌++◌, length, map, take, IfSome, OnOk, OnErr, Ok, ℕ, List, codes};
+ghost use Rattle.std.specs.Prelude.{◌≡◌, ◌+◌, ◌<◌, ◌≤◌, [], ◌∷◌, ◌++◌, length, map, take, IfSome, Ok, ℕ, List, codes};
 ghost use Rattle.vp_pay.specs.declared.pattern.Pattern.TheVariants.{Wilds, Quads};
 ghost use Rattle.std.specs.Fmt.{decimal};
 ghost use Rattle.vp_pay.specs.Spelling.{kicker_words, pattern_words, qualifier_word, wild_word, line_words, table_text};
-ghost use Rattle.vp_pay.specs.Writing.{with_words, Puts};
+ghost use Rattle.vp_io.specs.Puts.{Puts};
 ghost use Rattle.vp_text.specs.Lines.{Feed, feed_of};
 ghost use Rattle.vp_text.specs.Sections.{text_of};
 ghost use Rattle.vp_pay.specs.Sections.{table_at};
 ghost use Rattle.vp_pay.specs.declared.table.PayTable.{PayTable};
-ghost use Rattle.vp_text.specs.Written.{with_word, line_of, written};
+ghost use Rattle.vp_text.specs.Written.{with_word, with_words, line_of, written};
 ghost use Rattle.vp_card.specs.Texts.{rank_set_text};
 ghost use Rattle.vp_pay.specs.Table.{IsTable};
-ghost use Rattle.std.specs.Io.KnownBytes.{Appends};
-ghost use Rattle.vp_io.specs.Causes.{HasCause};
-ghost use Rattle.vp_io.specs.Streams.{TookPart};
 
-use crate::{Pattern, PayLine, PayTable, Qualifier};
+use crate::{Pattern, PayLine, PayTable, Qualifier, put_line};
 use vp_card::{RankSet, rank_letter};
-use vp_io::{Sink, WriteFault, put};
+use vp_io::{Sink, WriteFault};
 use vp_text::Out;
 
 #[tactic(auto, using(vp_text::proofs::Room::length_with_word))]
@@ -107,7 +104,7 @@ fn qualifier(out: &mut Out, qualifier: Qualifier)
     }
 }
 
-#[tactic(auto, using(crate::proofs::Puts::payments_more, vp_text::proofs::Room::length_with_word, vp_text::proofs::Room::length_decimal))]
+#[tactic(auto, using(vp_text::proofs::WithWords::words_next, vp_text::proofs::Room::length_with_word, vp_text::proofs::Room::length_decimal))]
 fn payments(out: &mut Out, pays: &[u32; 5], coins: u8)
     requires coins { coins ≤ 5 }
     requires room { length out.old + 200 < 512 }
@@ -118,7 +115,7 @@ fn payments(out: &mut Out, pays: &[u32; 5], coins: u8)
     }
 }
 
-#[tactic(auto, using(crate::proofs::Puts::with_words_append, vp_text::proofs::Room::length_with_word), unfolding(crate::specs::Spelling::line_words))]
+#[tactic(auto, using(vp_text::proofs::WithWords::with_words_append, vp_text::proofs::Room::length_with_word), unfolding(crate::specs::Spelling::line_words))]
 fn pay_line(out: &mut Out, line: &PayLine, coins: u8)
     requires coins { coins ≤ 5 }
     requires empty { out.old ≡ [] }
@@ -131,15 +128,7 @@ fn pay_line(out: &mut Out, line: &PayLine, coins: u8)
     payments(out, &line.pays, coins);
 }
 
-fn put_line<K: Sink>(out: &mut Out, sink: &mut K) -> Result<(), WriteFault>
-    ensures puts { Puts (K.taken sink.old) (K.taken sink.new) (K.faults sink.old) (K.faults sink.new) result (out.old ++ 10 ∷ []) }
-    ensures empty { out.new ≡ [] }
-{
-    put(sink, out.line())
-}
-
 /// Puts a pay line, as a line of its own.
-#[tactic(auto, using(crate::proofs::Puts::pay_line_bytes))]
 fn put_pay_line<K: Sink>(
     out: &mut Out,
     line: &PayLine,
@@ -173,7 +162,7 @@ fn put_pay_lines<K: Sink>(
 }
 
 /// Puts a line of two words.
-#[tactic(auto, using(crate::proofs::Puts::Puts_two, vp_text::proofs::Room::length_with_word))]
+#[tactic(auto, using(crate::proofs::Puts::Puts_line, vp_text::proofs::Room::length_with_word))]
 fn put_two<K: Sink>(out: &mut Out, key: &[u8], word: &[u8], sink: &mut K) -> Result<(), WriteFault>
     requires empty { out.old ≡ [] }
     requires some { 0 < length key.now }
@@ -187,7 +176,7 @@ fn put_two<K: Sink>(out: &mut Out, key: &[u8], word: &[u8], sink: &mut K) -> Res
 }
 
 /// Puts a line of a word and a number.
-#[tactic(auto, using(crate::proofs::Puts::Puts_two, vp_text::proofs::Room::length_with_word, vp_text::proofs::Room::length_decimal))]
+#[tactic(auto, using(crate::proofs::Puts::Puts_line, vp_text::proofs::Room::length_with_word, vp_text::proofs::Room::length_decimal))]
 fn put_number<K: Sink>(out: &mut Out, key: &[u8], value: u8, sink: &mut K) -> Result<(), WriteFault>
     requires empty { out.old ≡ [] }
     requires some { 0 < length key.now }
@@ -215,7 +204,7 @@ fn put_wild<K: Sink>(out: &mut Out, wild: Option<u8>, sink: &mut K) -> Result<()
     }
 }
 
-#[tactic(auto, using(crate::proofs::Puts::Puts_end))]
+#[tactic(auto, using(crate::proofs::Puts::Puts_line))]
 fn put_end<K: Sink>(out: &mut Out, sink: &mut K) -> Result<(), WriteFault>
     requires empty { out.old ≡ [] }
     ensures { Puts (K.taken sink.old) (K.taken sink.new) (K.faults sink.old) (K.faults sink.new) result (line_of (codes "end" ∷ [])) }
@@ -241,9 +230,7 @@ impl PayTable {
     /// Writes the table in its one spelling: one space between words, a line feed at the end of each line.
     pub fn write<K: Sink>(&self, sink: &mut K) -> Result<(), WriteFault>
         requires { IsTable self.now }
-        ensures all { OnOk result (Appends (K.taken sink.old) (K.taken sink.new) (written (table_text self.now))) }
-        ensures part { OnErr result (TookPart (K.taken sink.old) (K.taken sink.new) (written (table_text self.now))) }
-        ensures cause { HasCause (K.faults sink.old) (K.faults sink.new) result }
+        ensures { Puts (K.taken sink.old) (K.taken sink.new) (K.faults sink.old) (K.faults sink.new) result (written (table_text self.now)) }
     {
         put_table(self, sink)
     }

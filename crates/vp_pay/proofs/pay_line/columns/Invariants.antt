@@ -1,5 +1,5 @@
 use Rattle.std.proofs.Common.{◌≡◌, ◌-◌, drop, replicate, length}
-use Rattle.vp_pay.specs.Pieces.{so_many}
+use Rattle.vp_text.specs.Pieces.{so_many}
 use Rattle.vp_pay.specs.Reading.{payment_of}
 use Rattle.vp_pay.proofs.Columns.{ahead}
 use Rattle.vp_pay.proofs.pay_line.columns.Given as goal

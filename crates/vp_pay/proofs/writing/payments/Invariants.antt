@@ -1,6 +1,6 @@
 use Rattle.std.proofs.Common.{◌≡◌, ◌+◌, ◌*◌, ◌≤◌, map, length, take}
 use Rattle.std.specs.Fmt.{decimal}
-use Rattle.vp_pay.specs.Writing.{with_words}
+use Rattle.vp_text.specs.Written.{with_words}
 use Rattle.vp_pay.proofs.writing.payments.Given as goal
 
 abbrev pub invariant-loop-column : goal.invariant-loop-column

@@ -3,7 +3,7 @@ use Rattle.std.specs.Prelude.{Ok}
 use Rattle.vp_io.specs.declared.fault.WriteFault.{WriteFault}
 use Rattle.vp_text.specs.Written.{written}
 use Rattle.vp_pay.specs.Spelling.{line_words}
-use Rattle.vp_pay.specs.Writing.{Puts}
+use Rattle.vp_io.specs.Puts.{Puts}
 use Rattle.vp_pay.proofs.writing.put_pay_lines.Given as goal
 
 abbrev pub invariant-loop-line : goal.invariant-loop-line
