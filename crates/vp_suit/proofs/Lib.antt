@@ -14,3 +14,5 @@ pub mod Walks
 pub mod ClassLaws
 pub mod TurnedDraws
 pub mod Cover
+pub mod Order
+pub mod CarriedBack

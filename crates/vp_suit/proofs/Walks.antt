@@ -1,20 +1,17 @@
 -- A walk over all deals by rising index, and the hand of a deal.
-use Rattle.std.proofs.Common.{◌≡◌, ◌⊎◌, inl, inr, ℕ, ◌+◌, ◌<◌, ◌≤◌, Bool, true, false, cond, IsTrue, List, [], ◌∷◌, length, get_or, drop, refl, ap, sym, subst, ◌∙◌, arith, lit≤, eqb, filter}
+use Rattle.std.proofs.Common.{◌≡◌, ◌⊎◌, inl, inr, ℕ, ◌+◌, ◌<◌, ◌≤◌, Bool, true, false, cond, IsTrue, List, [], ◌∷◌, length, drop, refl, ap, sym, subst, ◌∙◌, arith, lit≤, filter}
 use Rattle.std.specs.Prelude.{◌↔◌}
 use Rattle.std.proofs.lemmas.List.{drop_more, drop_all}
 use Rattle.std.proofs.lemmas.Bool.{cases_Bool, cases_lt, both_ways}
 use Rattle.std.proofs.lemmas.List.Sums.{length-filter, count_by-le-length}
-use Rattle.std.specs.List.{IsDistinct, count_by}
-use Rattle.std.specs.List.Sorted.{IsPermutation}
+use Rattle.std.specs.List.{count_by}
 use Rattle.vp_card.specs.Cards.{IsHand}
-use Rattle.vp_sets.specs.Sets.{choose, times}
+use Rattle.vp_sets.specs.Sets.{choose}
 use Rattle.vp_sets.specs.Index.{HasIndex, set_index, index_from, colex}
-use Rattle.vp_sets.proofs.Rising.{rising_same, times-IsPermutation, times-rising, distinct_from}
 use Rattle.vp_sets.proofs.Binomials.{choose_small}
 use Rattle.vp_sets.proofs.Colex.{colex_count, hand_is_set}
 use Rattle.vp_suit.specs.Classes.{IsDeal, is_representative, representatives}
-use Rattle.vp_suit.proofs.Hands.{hand_rises, five}
-use Rattle.vp_suit.proofs.Deals.{deal, deal_at, deal_rises, index_small}
+use Rattle.vp_suit.proofs.Deals.{deal, deal_at, index_small}
 
 -- a hand is a deal
 pub hand_deal : (cards : List ℕ) → IsHand cards → IsDeal 53 cards
@@ -52,18 +49,6 @@ step n cards new old left more d on view tells next =
           | inl l ↦ absurd (both_ways more no' (tells.1 l))
           | inr l ↦ omega arith
         ]
-
--- five cards in a row
-pub row_of : (cards : List ℕ) (a b c d e : ℕ) → length cards ≡ 5 → a ≡ get_or cards 0 0 → b ≡ get_or cards 1 0 → c ≡ get_or cards 2 0 → d ≡ get_or cards 3 0 → e ≡ get_or cards 4 0 → a ∷ b ∷ c ∷ d ∷ e ∷ [] ≡ cards
-row_of cards a b c d e l p q r s t = rw (p, q, r, s, t) (sym (five cards l))
-
--- the cards of a deal differ
-pub different_cards : (cards row : List ℕ) → IsDeal 53 cards → row ≡ cards → IsDistinct eqb row
-different_cards cards row d e = rw e (distinct_from cards (λ x. times-rising x cards (deal_rises 53 cards d)))
-
--- cards that rise are the hand that is made of them
-pub hand_of_deal : (n : ℕ) (cards row hand : List ℕ) → IsDeal n cards → row ≡ cards → IsPermutation row hand → IsHand hand → hand ≡ cards
-hand_of_deal n cards row hand d e same h = rising_same hand cards (hand_rises hand h) (deal_rises n cards d) (λ x. times-IsPermutation x row hand same ∙ ap (λ (s : List ℕ). times x s) e)
 
 -- ---- the classes that are left
 

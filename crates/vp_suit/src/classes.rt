@@ -1,13 +1,13 @@
 //! The classes of all deals from a deck, by their representatives.
 
-ghost use Rattle.std.specs.Prelude.{◌≡◌, ◌⊎◌, ◌++◌, [], length, ◌<◌, IfSome, IfNone, option_map, option_to_list};
-ghost use Rattle.vp_suit.specs.Classes.{IsDeal, representatives, weight};
+ghost use Rattle.std.specs.Prelude.{◌≡◌, ◌⊎◌, ◌++◌, [], length, IfSome, IfNone, option_map, option_to_list};
+ghost use Rattle.vp_suit.specs.Classes.{representatives, weight};
 
 use crate::Class;
 use crate::heaps::{stands, weight_of};
 use crate::walk::Deals;
 use std::marker::Model;
-use vp_card::{Card, Hand};
+use vp_sets::hand_of;
 
 /// The classes of the deals from a deck that were not given yet.
 #[derive(Drop)]
@@ -51,22 +51,6 @@ impl Classes {
         }
         None
     }
-}
-
-/// The hand of these cards.
-fn hand_of(cards: &[u8; 5]) -> Hand
-    requires { IsDeal 53 cards.now }
-    ensures { result ≡ cards.now }
-{
-    let [a, b, c, d, e] = *cards;
-    Hand::of([card(a), card(b), card(c), card(d), card(e)]).unwrap()
-}
-
-fn card(number: u8) -> Card
-    requires { number < 53 }
-    ensures { result ≡ number }
-{
-    Card::new(number).unwrap()
 }
 
 /// The number of classes of the deals from a deck of `n` cards.
