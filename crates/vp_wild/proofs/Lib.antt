@@ -5,3 +5,7 @@ pub mod CountTable
 pub mod ByShape
 pub mod AlikeHands
 pub mod TurnedHands
+pub mod SuitTurns
+pub mod Raised
+pub mod SuitBits
+pub mod KeptPlaces

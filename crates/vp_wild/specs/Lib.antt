@@ -3,3 +3,5 @@ pub mod Faces
 pub mod Patterns
 pub mod Payment
 pub mod ByCounts
+pub mod Places
+pub mod Kept

@@ -1,12 +1,14 @@
 //! Laws of matches and payments, each the contract of a function that does nothing.
 
-ghost use Rattle.std.specs.Prelude.{◌≡◌, ℕ, Bool, List, Option, length, map, true};
+ghost use Rattle.std.specs.Prelude.{◌≡◌, ℕ, ◌<◌, Bool, List, Option, length, map, true};
 ghost use Rattle.std.specs.Bool.{Decides};
 ghost use Rattle.std.specs.List.Sorted.{IsPermutation};
 ghost use Rattle.vp_pay.specs.declared.pattern.Pattern.{Pattern};
 ghost use Rattle.vp_pay.specs.declared.table.PayTable.{PayTable};
 ghost use Rattle.vp_rank.specs.Counts.{one_suit, ranked};
 ghost use Rattle.vp_rank.specs.Wilds.{naturals, wilds};
+ghost use Rattle.vp_suit.specs.Classes.{IsDeal, IsKept};
+ghost use Rattle.vp_suit.specs.Turns.{turn};
 ghost use Rattle.vp_wild.specs.Alike.{Alike, ExchangesSuits};
 ghost use Rattle.vp_wild.specs.ByCounts.{matches_by_counts};
 ghost use Rattle.vp_wild.specs.Faces.{AreFaces, some_faces};
@@ -48,4 +50,10 @@ pub fn order_plays_no_part()
 pub fn suits_can_be_exchanged()
     ensures { (wild : Option ℕ) (f to from : ℕ → ℕ) → ExchangesSuits wild f to from → (hand : List ℕ) →
         Alike wild hand (map f hand) }
+{}
+
+/// A deal and the deals that the 24 turns of the suits make of it have the same pay line and the same payment.
+pub fn turned_hands_are_paid_alike()
+    ensures line { (n t : ℕ) (table : PayTable) (cards : List ℕ) → t < 24 → IsDeal n cards → line table (turn t cards) ≡ line table cards }
+    ensures payment { (n coin : ℕ) (table : PayTable) → IsKept n (pay table coin) }
 {}

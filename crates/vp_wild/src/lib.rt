@@ -1,16 +1,19 @@
 //! Ranking of hands with wild cards: the first pay line that a hand hits, and its payment.
 #![tactic(auto)]
 
+mod kept;
 mod laws;
 mod patterns;
+mod places;
 mod ranker;
 mod steps;
 #[cfg(test)]
 mod tests;
 
+pub use kept::KeptPayments;
 pub use laws::{
     alike_hands_are_paid_alike, counts_tell_matches, faces_are_tried, order_plays_no_part,
-    suits_can_be_exchanged,
+    suits_can_be_exchanged, turned_hands_are_paid_alike,
 };
 pub use ranker::{line_of, pay};
 pub use steps::Steps;
