@@ -17,7 +17,7 @@ pub total_le : (table : PayTable) (coin : ℕ) (hand : List ℕ) (mask : ℕ) �
 unfolding total
 total_le table coin hand mask t d = sum_over_draws_le (pay table coin) 500000 table.deck hand mask d (λ h. pay_le table coin h t)
 
-deck_is : (n : ℕ) → 52 ≤ n → n ≤ 53 → (n ≡ 52) ⊎ (n ≡ 53)
+pub deck_is : (n : ℕ) → 52 ≤ n → n ≤ 53 → (n ≡ 52) ⊎ (n ≡ 53)
 deck_is n a b = elim (cases_lt 52 n) [ inl l ↦ inr (omega arith) | inr l ↦ inl (omega arith) ]
 
 scaled : (x m c s l : ℕ) → x ≤ m * c → s * c ≡ l → x * s ≤ m * l

@@ -6,12 +6,12 @@ ghost use Rattle.vp_pay.specs.Table.{IsTable};
 ghost use Rattle.vp_sets.specs.Draws.{common, discarded, draws};
 ghost use Rattle.vp_draws.specs.Draws.{best, least_best, masks, ties, total, value};
 
-use crate::walk::plain_total;
+use crate::walk::total_of;
 use std::sync::ledger::Ledger;
 use vp_card::Hand;
 use vp_pay::PayTable;
 use vp_sets::scale;
-use vp_wild::Steps;
+use vp_wild::{KeptPayments, Steps};
 
 /// The best hold of a hand.
 #[derive(Clone, Copy, Debug, PartialEq, Eq)]
@@ -42,12 +42,32 @@ pub fn value_of<L: Ledger>(
     ensures mean { result * length (draws table.now.deck hand.now mask) ≡ total table.now coin hand.now mask * common table.now.deck }
     ensures steps { steps.new ≡ steps.old + length (draws table.now.deck hand.now mask) }
 {
-    let total = plain_total(table, coin, hand, mask, steps);
-    total * scale(table.deck, cards_drawn(hand, mask))
+    let mut payments = KeptPayments::new(table, coin);
+    hold_value(&mut payments, table.deck, hand, mask, steps)
+}
+
+/// The value of a hold of a hand from a deck of `n` cards.
+fn hold_value<L: Ledger>(
+    payments: &mut KeptPayments,
+    n: u8,
+    hand: &Hand,
+    mask: u8,
+    steps: &mut Steps<L>,
+) -> u64
+    requires table { IsTable payments.old.table }
+    requires deck { n ≡ payments.old.table.deck }
+    requires cards { in_deck n hand.now ≡ true }
+    ensures value { result ≡ value payments.old.table payments.old.coin hand.now mask }
+    ensures same { payments.new ≡ payments.old }
+    ensures steps { steps.new ≡ steps.old + length (draws n hand.now mask) }
+    ensures hand { IsHand hand.now }
+{
+    let total = total_of(payments, n, hand, mask, steps);
+    total * scale(n, cards_drawn(hand, mask))
 }
 
 /// How many cards a hold draws.
-fn cards_drawn(hand: &Hand, mask: u8) -> u8
+pub fn cards_drawn(hand: &Hand, mask: u8) -> u8
     ensures drawn { result ≡ length (discarded mask hand.now) }
     ensures few { result ≤ 5 }
     ensures hand { IsHand hand.now }
@@ -72,20 +92,22 @@ pub fn plain_best<L: Ledger>(table: &PayTable, coin: u8, hand: &Hand, steps: &mu
     ensures least_best { result.mask ≡ least_best table.now coin hand.now }
     ensures steps { steps.new ≡ steps.old + sum_by (λ mask. length (draws table.now.deck hand.now mask)) masks }
 {
+    let mut payments = KeptPayments::new(table, coin);
     let mut best = Best {
         mask: 0,
-        value: value_of(table, coin, hand, 0, steps),
+        value: hold_value(&mut payments, table.deck, hand, 0, steps),
         ties: 1,
     };
     for mask in 1..32u8 {
-        let value = value_of(table, coin, hand, mask, steps);
+        let value = hold_value(&mut payments, table.deck, hand, mask, steps);
         best = better(best, mask, value);
     }
     best
 }
 
-/// The better of the best hold so far and a hold of a greater mask.
-fn better(best: Best, mask: u8, value: u64) -> Best
+/// The better of the best hold so far and a hold of a greater mask. Where they are worth the same, the hold so far stays, with
+/// one more tie.
+pub fn better(best: Best, mask: u8, value: u64) -> Best
     requires { best.ties < 255 }
     ensures greater { best.value < value → result ≡ record { mask = mask; value = value; ties = 1 } }
     ensures equal { best.value ≡ value → result ≡ record best { ties = best.ties + 1 } }

@@ -2,9 +2,11 @@
 #![tactic(auto)]
 
 mod best;
+mod laws;
 #[cfg(test)]
 mod tests;
 mod walk;
 
-pub use best::{Best, plain_best, value_of};
+pub use best::{Best, better, cards_drawn, plain_best, value_of};
+pub use laws::{best_hold_laws, best_holds_are_carried, values_are_kept_by_turns};
 pub use walk::plain_total;

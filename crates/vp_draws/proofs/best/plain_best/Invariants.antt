@@ -7,5 +7,9 @@ use Rattle.vp_draws.proofs.Choice.{IsBestBelow}
 use Rattle.vp_draws.proofs.best.plain_best.Given as goal
 
 abbrev pub invariant-loop-mask : goal.invariant-loop-mask
-invariant-loop-mask g l =
-    IsBestBelow (value l.table l.coin l.hand) l.mask l.best × (l.steps ≡ l.fn.steps + sum_by (λ mask. length (draws l.table.deck l.hand mask)) (deck l.mask))
+invariant-loop-mask g l = record {
+  best_below : IsBestBelow (value l.table l.coin l.hand) l.mask l.best;
+  table : l.payments.table ≡ l.table;
+  coin : l.payments.coin ≡ l.coin;
+  steps : l.steps ≡ l.fn.steps + sum_by (λ mask. length (draws l.table.deck l.hand mask)) (deck l.mask);
+}

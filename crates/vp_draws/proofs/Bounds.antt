@@ -1,0 +1,62 @@
+-- Best values, and their sum over all deals, fit 64 bits.
+use Rattle.std.proofs.Common.{◌≡◌, ◌⊎◌, inl, inr, ℕ, zero, suc, ◌*◌, ◌^◌, ◌<◌, ◌≤◌, List, lit<, arith}
+use Rattle.std.proofs.Math.Nat.{mul-suc}
+use Rattle.std.specs.List.{sum_by}
+use Rattle.vp_sets.specs.Sets.{deck, combos, choose}
+use Rattle.vp_sets.specs.Draws.{common}
+use Rattle.vp_sets.proofs.Binomials.{choose-zero, choose_times}
+use Rattle.vp_sets.proofs.Denominators.{common-52, common-53, common_small}
+use Rattle.vp_sets.proofs.Holds.{Dealt}
+use Rattle.vp_suit.proofs.Below.{below, below-zero, below-suc}
+use Rattle.vp_suit.proofs.Deals.{deal, deal_is, sum_of_deals}
+use Rattle.vp_suit.proofs.TurnedDraws.{dealt_is}
+use Rattle.vp_pay.specs.declared.table.PayTable.{PayTable}
+use Rattle.vp_pay.specs.Table.{IsTable}
+use Rattle.vp_draws.specs.Draws.{best, sum_of_best}
+use Rattle.vp_draws.proofs.Values.{deck_is, value_le, value_is}
+use Rattle.vp_draws.proofs.Chosen.{best_le}
+
+pub best_small : (table : PayTable) (coin : ℕ) (hand : List ℕ) → IsTable table → Dealt table.deck hand → best table coin hand ≤ 500000 * common table.deck
+best_small table coin hand t d = best_le table coin hand (500000 * common table.deck) (λ mask l. rw (← value_is table coin hand mask) (value_le table coin hand mask t d))
+
+pub best_fits : (table : PayTable) (coin : ℕ) (hand : List ℕ) → IsTable table → Dealt table.deck hand → best table coin hand < 2 ^ 64
+best_fits table coin hand t d = omega (arith, best_small table coin hand t d, common_small table.deck (deck_is table.deck t.least_deck t.greatest_deck))
+
+-- a bound on each term bounds the sum
+below_le : (x : ℕ → ℕ) (m n : ℕ) → ((i : ℕ) → i < n → x i ≤ m) → below x n ≤ m * n
+below_le x m zero h = omega (arith, below-zero x)
+below_le x m (suc n) h = omega (arith, below-suc x n, below_le x m n (λ i l. h i (omega arith)), h n (omega arith), mul-suc m n)
+
+-- how many deals there are
+deals-52 : choose 52 5 ≡ 2598960
+deals-52 =
+    let one : choose 52 1 ≡ 52 = omega (arith, choose_times 52 0, choose-zero 52) in
+    let two : choose 52 2 ≡ 1326 = omega (arith, choose_times 52 1) in
+    let three : choose 52 3 ≡ 22100 = omega (arith, choose_times 52 2) in
+    let four : choose 52 4 ≡ 270725 = omega (arith, choose_times 52 3) in
+    omega (arith, choose_times 52 4)
+
+deals-53 : choose 53 5 ≡ 2869685
+deals-53 =
+    let one : choose 53 1 ≡ 53 = omega (arith, choose_times 53 0, choose-zero 53) in
+    let two : choose 53 2 ≡ 1378 = omega (arith, choose_times 53 1) in
+    let three : choose 53 3 ≡ 23426 = omega (arith, choose_times 53 2) in
+    let four : choose 53 4 ≡ 292825 = omega (arith, choose_times 53 3) in
+    omega (arith, choose_times 53 4)
+
+-- the greatest payment for every deal of a deck fits
+room : (n : ℕ) → (n ≡ 52) ⊎ (n ≡ 53) → 500000 * common n * choose n 5 < 2 ^ 64
+room n (inl e) = rw (e, common-52, deals-52) (lit< tt)
+room n (inr e) = rw (e, common-53, deals-53) (lit< tt)
+
+pub sum_of_best_small : (table : PayTable) (coin : ℕ) → IsTable table → sum_of_best table coin ≤ 500000 * common table.deck * choose table.deck 5
+unfolding sum_of_best
+sum_of_best_small table coin t =
+    let n : ℕ = table.deck in
+    let total : sum_by (best table coin) (combos 5 (deck n)) ≡ below (λ i. best table coin (deal n i)) (choose n 5) = sum_of_deals n (best table coin) in
+    let bound : below (λ i. best table coin (deal n i)) (choose n 5) ≤ 500000 * common n * choose n 5 =
+    below_le (λ i. best table coin (deal n i)) (500000 * common n) (choose n 5) (λ i l. best_small table coin (deal n i) t (dealt_is n (deal n i) (deal_is n i l).0)) in
+    omega arith
+
+pub sum_of_best_fits : (table : PayTable) (coin : ℕ) → IsTable table → sum_of_best table coin < 2 ^ 64
+sum_of_best_fits table coin t = omega (arith, sum_of_best_small table coin t, room table.deck (deck_is table.deck t.least_deck t.greatest_deck))
