@@ -1,4 +1,3 @@
 pub mod Filled
-pub mod Shapes
 pub mod Values
 pub mod Written

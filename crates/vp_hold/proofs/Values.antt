@@ -12,7 +12,8 @@ use Rattle.vp_draws.specs.Draws.{total, value}
 use Rattle.vp_draws.proofs.Values.{value_fits, value_is}
 use Rattle.vp_count.specs.Sums.{number, spread}
 use Rattle.vp_count.specs.Table.{Table}
-use Rattle.vp_hold.specs.Games.{Bet, payments, IsGame}
+use Rattle.vp_wild.specs.Kept.{Bet}
+use Rattle.vp_hold.specs.Games.{payments, IsGame}
 use Rattle.vp_hold.proofs.Written.{payment_number}
 
 below_in_deck : (n : ℕ) (s : List ℕ) → in_deck n s ≡ true → Below n s

@@ -1,18 +1,15 @@
 -- The payments of all sets of five cards by index, written one by one.
-use Rattle.std.proofs.Common.{◌≡◌, ◌⊎◌, inl, inr, ℕ, ◌+◌, ◌<◌, ◌≤◌, Bool, true, false, IsTrue, List, [], ◌∷◌, length, get_or, set, refl, ap, sym, subst, ◌∙◌, arith, lit<, eqb, length-set, get_or-set_same, get_or-set_other}
+use Rattle.std.proofs.Common.{◌≡◌, ◌⊎◌, inl, inr, ℕ, ◌+◌, ◌<◌, ◌≤◌, Bool, true, false, IsTrue, List, [], ◌∷◌, length, get_or, set, refl, ap, sym, subst, ◌∙◌, arith, lit<, length-set, get_or-set_same, get_or-set_other}
 use Rattle.std.specs.Prelude.{◌↔◌}
-use Rattle.std.specs.List.{All, IsDistinct}
-use Rattle.std.specs.List.Sorted.{IsPermutation}
+use Rattle.std.specs.List.{All}
 use Rattle.std.proofs.lemmas.Bool.{cases_eq, false≢true}
 use Rattle.std.proofs.lemmas.List.{get_or-map, ext_get_or, length-map}
 use Rattle.std.proofs.lemmas.List.Elements.{All-map, All-from_get_or}
-use Rattle.vp_card.specs.Cards.{IsHand}
 use Rattle.vp_pay.specs.declared.table.PayTable.{PayTable}
 use Rattle.vp_pay.specs.Table.{IsTable}
 use Rattle.vp_wild.specs.Payment.{pay}
-use Rattle.vp_sets.specs.Sets.{choose, times}
+use Rattle.vp_sets.specs.Sets.{choose}
 use Rattle.vp_sets.specs.Index.{IsSet, HasIndex, set_index, index_from, colex}
-use Rattle.vp_sets.proofs.Rising.{rising_same, rising_from, times-IsPermutation, times-rising, distinct_from}
 use Rattle.vp_sets.proofs.Colex.{colex_count, at_index, set_rises, set_below, set_from}
 use Rattle.vp_draws.proofs.Payments.{pay_le}
 use Rattle.vp_count.specs.Sums.{number}
@@ -114,24 +111,3 @@ written_more table coin numbers cards new i v more l h e m = record {
 pub written_done : (table : PayTable) (coin : ℕ) (numbers cards : List ℕ) (i : ℕ) → i ≡ length numbers → Written table coin numbers cards i → numbers ≡ payments table coin
 written_done table coin numbers cards i e h =
     ext_get_or 0 numbers (payments table coin) (h.long ∙ sym (payments_count table coin)) (λ k l. h.done k (omega arith))
-
--- ---- the hand of five cards that rise
-
-five_in_row : (cards : List ℕ) → length cards ≡ 5 → cards ≡ get_or cards 0 0 ∷ get_or cards 1 0 ∷ get_or cards 2 0 ∷ get_or cards 3 0 ∷ get_or cards 4 0 ∷ []
-five_in_row (a ∷ b ∷ c ∷ d ∷ e ∷ []) h = refl
-five_in_row [] h = absurd (omega arith)
-five_in_row (a ∷ []) h = absurd (omega arith)
-five_in_row (a ∷ b ∷ []) h = absurd (omega arith)
-five_in_row (a ∷ b ∷ c ∷ []) h = absurd (omega arith)
-five_in_row (a ∷ b ∷ c ∷ d ∷ []) h = absurd (omega arith)
-five_in_row (a ∷ b ∷ c ∷ d ∷ e ∷ f ∷ g) h = absurd (omega arith)
-
-pub row_of : (cards : List ℕ) (a b c d e : ℕ) → length cards ≡ 5 → a ≡ get_or cards 0 0 → b ≡ get_or cards 1 0 → c ≡ get_or cards 2 0 → d ≡ get_or cards 3 0 → e ≡ get_or cards 4 0 → a ∷ b ∷ c ∷ d ∷ e ∷ [] ≡ cards
-row_of cards a b c d e l p q r s t = rw (p, q, r, s, t) (sym (five_in_row cards l))
-
-pub different_cards : (cards row : List ℕ) → IsSet 53 cards → row ≡ cards → IsDistinct eqb row
-different_cards cards row h e = rw e (distinct_from cards (λ x. times-rising x cards (set_rises 53 cards h)))
-
-pub hand_of_set : (cards row hand : List ℕ) → IsSet 53 cards → row ≡ cards → IsPermutation row hand → IsHand hand → hand ≡ cards
-hand_of_set cards row hand h e same made =
-    rising_same hand cards (rising_from hand made.rising) (set_rises 53 cards h) (λ x. times-IsPermutation x row hand same ∙ ap (λ (s : List ℕ). times x s) e)

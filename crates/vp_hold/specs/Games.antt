@@ -6,11 +6,6 @@ use Rattle.vp_wild.specs.Payment.{pay}
 use Rattle.vp_sets.specs.Index.{colex}
 use Rattle.vp_count.specs.Table.{Table}
 
--- a pay table and the number of coins bet
-pub record Bet : Type 0 where
-  pub table : PayTable
-  pub coin : ℕ
-
 -- the payments of all sets of five cards, by rising index
 unfoldable pub payments : PayTable → ℕ → List ℕ
 payments table coin = map (pay table coin) (colex 5 table.deck)

@@ -1,2 +1,1 @@
 pub mod Games
-pub mod Known

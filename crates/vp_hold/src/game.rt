@@ -7,15 +7,14 @@ ghost use Rattle.vp_sets.specs.Sets.{choose};
 ghost use Rattle.vp_count.specs.Table.{first_word};
 ghost use Rattle.vp_draws.specs.Draws.{best, least_best, ties, value};
 
-use crate::choice::{better, scaled};
-use crate::payments::write_payments;
+use crate::payments::payment_sums;
+use crate::scaled::scaled;
 use std::marker::Model;
 use std::sync::ledger::Ledger;
 use vp_card::Hand;
 use vp_count::{Reads, SumTable, all_totals, held_total};
-use vp_draws::Best;
+use vp_draws::{Best, better};
 use vp_pay::PayTable;
-use vp_sets::choose;
 use vp_wild::Steps;
 
 /// A bet on a pay table, and the sums of the payments of all hands of its deck.
@@ -27,7 +26,8 @@ pub struct Game<'a> {
 }
 
 impl<'a> Model for Game<'a> {
-    ghost use Rattle.vp_hold.specs.Games.{Bet, IsGame};
+    ghost use Rattle.vp_wild.specs.Kept.{Bet};
+    ghost use Rattle.vp_hold.specs.Games.{IsGame};
 
     ghost Value = { Bet };
 
@@ -53,10 +53,7 @@ impl<'a> Game<'a> {
         ensures coin { result.coin ≡ coin }
         ensures steps { steps.new ≡ steps.old + choose table.now.deck 5 }
     {
-        let hands = choose(table.deck, 5) as usize;
-        let first = words.len() - hands;
-        write_payments(table, coin, &mut words[first..], steps);
-        let sums = SumTable::fill(table.deck, words);
+        let sums = payment_sums(table, coin, words, steps);
         Game { table, coin, sums }
     }
 

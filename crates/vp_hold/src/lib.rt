@@ -1,14 +1,14 @@
 //! The value of each hold of a hand, and the best hold, out of one table of sums for a bet.
 #![tactic(auto)]
 
-mod choice;
 mod game;
-mod hands;
-mod known;
+#[cfg(test)]
+mod jobs;
 mod laws;
 mod payments;
 #[cfg(test)]
 mod plain;
+mod scaled;
 #[cfg(test)]
 mod tests;
 

@@ -1,22 +1,23 @@
-//! The values of a game beside those of the plain walk over all draws.
+//! The totals and values of a dozen deals of each family of tables, beside those of the walk over all draws.
 
-ghost use Rattle.std.specs.Prelude.{◌≡◌, ◌<◌, ◌≤◌, true, length};
+ghost use Rattle.std.specs.Prelude.{◌≡◌, ◌<◌, ◌≤◌, true, IfSome, length};
 ghost use Rattle.vp_card.specs.Cards.{in_deck};
 ghost use Rattle.vp_pay.specs.Table.{IsTable};
 ghost use Rattle.vp_count.specs.Table.{first_word};
 
 use crate::Game;
+use crate::payments::payment_sums;
 use std::marker::Brand;
 use std::sync::ledger::{Blank, Ledger};
 use std::test::*;
 use vp_card::{Card, Hand};
-use vp_count::table_words;
-use vp_draws::value_of;
+use vp_count::{Reads, SumTable, held_total, table_words};
+use vp_draws::{plain_total, value_of};
 use vp_pay::PayTable;
 use vp_wild::Steps;
 
-/// A dozen deals: pairs, draws to straights and flushes, made hands, wild twos, and two with the joker.
-const DEALS: [&[u8]; 12] = [
+/// A dozen deals of 52 cards: pairs, draws to straights and flushes, made hands, one to four twos, and nothing.
+pub(crate) const DEALS: [&[u8]; 12] = [
     b"AsKsQsJs4s",
     b"2c7d9hJsKc",
     b"8c8d8h8s3c",
@@ -27,8 +28,24 @@ const DEALS: [&[u8]; 12] = [
     b"2hKdKsJdTd",
     b"5c5d9h9sQc",
     b"2c2dTsJsQs",
+    b"3d6s8hTcQd",
+    b"2d2h2s5h9h",
+];
+
+/// A dozen deals of 53 cards, nine of them with the joker.
+const JOKER_DEALS: [&[u8]; 12] = [
     b"JoTsJsQsKs",
     b"Jo2c4d9hAs",
+    b"JoAcAdAhAs",
+    b"Jo8c8d8h3c",
+    b"JoKcKd7h7s",
+    b"Jo3c4c5c9d",
+    b"Jo5h6h7h8h",
+    b"Jo2s3dAcAd",
+    b"Jo2c6d8hTs",
+    b"AsKsQsJs4s",
+    b"KcKd9h9s9c",
+    b"2c7d9hJsQc",
 ];
 
 fn card_at(deal: &[u8], place: usize) -> Option<Card>
@@ -37,7 +54,8 @@ fn card_at(deal: &[u8], place: usize) -> Option<Card>
     Card::read(deal.get(2 * place..2 * place + 2)?)
 }
 
-fn hand_of(deal: &[u8]) -> Option<Hand> {
+/// The hand of a deal, five cards one after the other.
+pub(crate) fn hand_of(deal: &[u8]) -> Option<Hand> {
     Hand::of([
         card_at(deal, 0)?,
         card_at(deal, 1)?,
@@ -47,14 +65,39 @@ fn hand_of(deal: &[u8]) -> Option<Hand> {
     ])
 }
 
-fn is_of_deck(table: &PayTable, hand: &Hand) -> bool
+pub(crate) fn is_of_deck(table: &PayTable, hand: &Hand) -> bool
     ensures { result ≡ in_deck table.now.deck hand.now }
 {
     hand.numbers().iter().all(|card| *card < table.deck)
 }
 
-/// Whether the game tells the value that the walk tells, for each of the 32 holds.
-fn holds_agree<L: Ledger>(game: &Game, hand: &Hand, steps: &mut Steps<L>) -> bool
+/// Whether the sums tell the totals that the walk tells, for each of the 32 holds.
+fn totals_agree<L: Ledger>(
+    table: &PayTable,
+    coin: u8,
+    sums: &SumTable,
+    hand: &Hand,
+    steps: &mut Steps<L>,
+) -> bool
+    requires table { IsTable table.now }
+    requires coin_from { 1 ≤ coin }
+    requires coin_to { coin ≤ table.now.coins }
+    requires size { sums.now.size ≡ table.now.deck }
+    requires cards { in_deck table.now.deck hand.now ≡ true }
+{
+    let mut agree = true;
+    for mask in 0..32u8 {
+        let mut reads = Reads::new(&*sums);
+        let told = held_total(&mut reads, &hand.numbers(), mask);
+        if told != plain_total(table, coin, hand, mask, steps) {
+            agree = false;
+        }
+    }
+    agree
+}
+
+/// Whether the game tells the values that the walk tells, for each of the 32 holds.
+fn values_agree<L: Ledger>(game: &Game, hand: &Hand, steps: &mut Steps<L>) -> bool
     requires { in_deck game.now.table.deck hand.now ≡ true }
 {
     let mut agree = true;
@@ -67,8 +110,42 @@ fn holds_agree<L: Ledger>(game: &Game, hand: &Hand, steps: &mut Steps<L>) -> boo
     agree
 }
 
-/// Whether they agree on the deals of the table's deck, of which there are at least ten.
-fn deals_agree<L: Ledger>(table: &PayTable, coin: u8, words: &mut [u64], blank: Blank) -> bool
+/// On how many of the deals the totals agree.
+fn totals_from<L: Ledger>(
+    table: &PayTable,
+    coin: u8,
+    deals: &[&[u8]; 12],
+    words: &mut [u64],
+    blank: Blank,
+) -> Option<u32>
+    requires table { IsTable table.now }
+    requires coin_from { 1 ≤ coin }
+    requires coin_to { coin ≤ table.now.coins }
+    requires long { length words.old ≡ first_word table.now.deck 6 }
+    requires name { blank.name ≡ L.name }
+    requires parts { blank.parts ≡ L.parts }
+    requires share { 0 < blank.parts }
+{
+    let mut steps = Steps::<L>::new(blank);
+    let sums = payment_sums(table, coin, words, &mut steps);
+    let mut agreeing = 0u32;
+    for deal in deals {
+        let hand = hand_of(deal)?;
+        if is_of_deck(table, &hand) && totals_agree(table, coin, &sums, &hand, &mut steps) {
+            agreeing = agreeing.saturating_add(1);
+        }
+    }
+    Some(agreeing)
+}
+
+/// On how many of the deals the values agree.
+fn values_from<L: Ledger>(
+    table: &PayTable,
+    coin: u8,
+    deals: &[&[u8]; 12],
+    words: &mut [u64],
+    blank: Blank,
+) -> Option<u32>
     requires table { IsTable table.now }
     requires coin_from { 1 ≤ coin }
     requires coin_to { coin ≤ table.now.coins }
@@ -79,100 +156,89 @@ fn deals_agree<L: Ledger>(table: &PayTable, coin: u8, words: &mut [u64], blank: 
 {
     let mut steps = Steps::<L>::new(blank);
     let game = Game::fill(table, coin, words, &mut steps);
-    let mut agree = true;
-    let mut last = 0;
-    for (place, deal) in DEALS.iter().enumerate() {
-        if let Some(hand) = hand_of(deal) {
-            if is_of_deck(table, &hand) {
-                last = place;
-                if !holds_agree(&game, &hand, &mut steps) {
-                    agree = false;
-                }
-            }
+    let mut agreeing = 0u32;
+    for deal in deals {
+        let hand = hand_of(deal)?;
+        if is_of_deck(table, &hand) && values_agree(&game, &hand, &mut steps) {
+            agreeing = agreeing.saturating_add(1);
         }
     }
-    agree && last >= 9
+    Some(agreeing)
 }
 
-/// The same for a built-in table.
-fn built_in_agrees(rt: &HostRuntime, i: u8, coin: u8) -> Result<bool, Fail> {
-    let table = PayTable::built_in(i).ok_or("no such table")?;
-    if coin == 0 || table.coins < coin {
-        return Ok(false);
-    }
-    let mut words = vec![in rt.alloc(); 9u64; table_words(table.deck)]?;
-    Ok(deals_agree::<Brand>(&table, coin, &mut words, Blank::new(1)))
-}
-
-#[test]
-fn jacks(rt: HostRuntime) -> Result<(), Fail> {
-    assert!(rt; built_in_agrees(&rt, 0, 5)?);
-    Ok(())
-}
-
-#[test]
-fn bonus(rt: HostRuntime) -> Result<(), Fail> {
-    assert!(rt; built_in_agrees(&rt, 1, 1)?);
-    Ok(())
-}
-
-#[test]
-fn deuces(rt: HostRuntime) -> Result<(), Fail> {
-    assert!(rt; built_in_agrees(&rt, 2, 3)?);
-    Ok(())
-}
-
-#[test]
-fn kings(rt: HostRuntime) -> Result<(), Fail> {
-    assert!(rt; built_in_agrees(&rt, 3, 5)?);
-    Ok(())
-}
-
-/// The ties of the best holds of ten deals, added up `turns` times.
-fn ties_of_best<L: Ledger>(table: &PayTable, turns: u32, words: &mut [u64], blank: Blank) -> u64
-    requires table { IsTable table.now }
-    requires long { length words.old ≡ first_word table.now.deck 6 }
-    requires name { blank.name ≡ L.name }
-    requires parts { blank.parts ≡ L.parts }
-    requires share { 0 < blank.parts }
+fn built_in(i: u8, coin: u8) -> Option<PayTable>
+    ensures { IfSome result (λ table. IsTable table × (coin ≤ table.coins)) }
 {
-    let game = Game::fill(table, 1, words, &mut Steps::<L>::new(blank));
-    let mut ties = 0u64;
-    for _ in 0..turns {
-        ties = ties.wrapping_add(ties_of_deals(&game));
+    let table = PayTable::built_in(i)?;
+    if coin <= table.coins {
+        Some(table)
+    } else {
+        None
     }
-    ties
 }
 
-/// The ties of the best holds of the deals, added up.
-fn ties_of_deals(game: &Game) -> u64 {
-    let mut ties = 0u64;
-    for deal in &DEALS {
-        if let Some(hand) = hand_of(deal) {
-            if is_of_deck(game.table(), &hand) {
-                ties = ties.wrapping_add(u64::from(game.best(&hand).ties));
-            }
-        }
-    }
-    ties
-}
-
-fn jacks_ties(rt: &HostRuntime, turns: u32) -> Result<u64, Fail> {
-    let table = PayTable::built_in(0).ok_or("no such table")?;
+/// On how many of the deals the totals for a built-in table agree.
+fn totals(rt: &HostRuntime, i: u8, coin: u8, deals: &[&[u8]; 12]) -> Result<Option<u32>, Fail>
+    requires { 1 ≤ coin }
+{
+    let table = built_in(i, coin).ok_or("no such table")?;
     let mut words = vec![in rt.alloc(); 9u64; table_words(table.deck)]?;
-    Ok(ties_of_best::<Brand>(&table, turns, &mut words, Blank::new(1)))
+    Ok(totals_from::<Brand>(&table, coin, deals, &mut words, Blank::new(1)))
 }
 
-// bench/deal takes the time of these two for that of a table, and of 200000 deals with all their 32 holds.
+/// On how many of the deals the values for a built-in table agree.
+fn values(rt: &HostRuntime, i: u8, coin: u8, deals: &[&[u8]; 12]) -> Result<Option<u32>, Fail>
+    requires { 1 ≤ coin }
+{
+    let table = built_in(i, coin).ok_or("no such table")?;
+    let mut words = vec![in rt.alloc(); 9u64; table_words(table.deck)]?;
+    Ok(values_from::<Brand>(&table, coin, deals, &mut words, Blank::new(1)))
+}
+
 #[test]
-fn one_table(rt: HostRuntime) -> Result<(), Fail> {
-    assert_eq!(rt; jacks_ties(&rt, 0)?, 0);
+fn jacks_totals(rt: HostRuntime) -> Result<(), Fail> {
+    assert_eq!(rt; totals(&rt, 0, 5, &DEALS)?, Some(12));
     Ok(())
 }
 
 #[test]
-fn many_deals(rt: HostRuntime) -> Result<(), Fail> {
-    let once = jacks_ties(&rt, 1)?;
-    assert_eq!(rt; jacks_ties(&rt, 20_000)?, once.wrapping_mul(20_000));
+fn jacks_values(rt: HostRuntime) -> Result<(), Fail> {
+    assert_eq!(rt; values(&rt, 0, 5, &DEALS)?, Some(12));
+    Ok(())
+}
+
+#[test]
+fn bonus_totals(rt: HostRuntime) -> Result<(), Fail> {
+    assert_eq!(rt; totals(&rt, 1, 1, &DEALS)?, Some(12));
+    Ok(())
+}
+
+#[test]
+fn bonus_values(rt: HostRuntime) -> Result<(), Fail> {
+    assert_eq!(rt; values(&rt, 1, 1, &DEALS)?, Some(12));
+    Ok(())
+}
+
+#[test]
+fn deuces_totals(rt: HostRuntime) -> Result<(), Fail> {
+    assert_eq!(rt; totals(&rt, 2, 3, &DEALS)?, Some(12));
+    Ok(())
+}
+
+#[test]
+fn deuces_values(rt: HostRuntime) -> Result<(), Fail> {
+    assert_eq!(rt; values(&rt, 2, 3, &DEALS)?, Some(12));
+    Ok(())
+}
+
+#[test]
+fn kings_totals(rt: HostRuntime) -> Result<(), Fail> {
+    assert_eq!(rt; totals(&rt, 3, 5, &JOKER_DEALS)?, Some(12));
+    Ok(())
+}
+
+#[test]
+fn kings_values(rt: HostRuntime) -> Result<(), Fail> {
+    assert_eq!(rt; values(&rt, 3, 5, &JOKER_DEALS)?, Some(12));
     Ok(())
 }

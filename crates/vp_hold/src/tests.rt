@@ -5,12 +5,13 @@ ghost use Rattle.vp_card.specs.Cards.{in_deck};
 ghost use Rattle.vp_pay.specs.Table.{IsTable};
 ghost use Rattle.vp_count.specs.Table.{first_word};
 
+use crate::payments::payment_sums;
 use crate::{Best, Game};
 use std::marker::Brand;
 use std::sync::ledger::{Blank, Ledger};
 use std::test::*;
 use vp_card::{Card, Hand};
-use vp_count::table_words;
+use vp_count::{Reads, held_total, table_words};
 use vp_pay::PayTable;
 use vp_text::Lines;
 use vp_wild::Steps;
@@ -101,5 +102,39 @@ fn draw_to_a_royal(rt: HostRuntime) -> Result<(), Fail> {
     assert_eq!(rt; pat, 46018170);
     assert!(rt; told);
     assert_eq!(rt; words.first(), Some(&875504));
+    Ok(())
+}
+
+/// The sum of the payments of all hands, and the totals of the holds 30 and 31 of a hand.
+fn totals_from<L: Ledger>(
+    table: &PayTable,
+    words: &mut [u64],
+    hand: &Hand,
+    blank: Blank,
+) -> Option<(u64, u64, u64)>
+    requires table { IsTable table.now }
+    requires long { length words.old ≡ first_word table.now.deck 6 }
+    requires name { blank.name ≡ L.name }
+    requires parts { blank.parts ≡ L.parts }
+    requires share { 0 < blank.parts }
+{
+    if !is_of_deck(table, hand) {
+        return None;
+    }
+    let sums = payment_sums(table, 1, words, &mut Steps::<L>::new(blank));
+    let mut reads = Reads::new(&sums);
+    let draw = held_total(&mut reads, &hand.numbers(), 30);
+    let pat = held_total(&mut reads, &hand.numbers(), 31);
+    Some((sums.at(&[]), draw, pat))
+}
+
+// The total of the 47 draws, and the flush that is held.
+#[test]
+fn totals_of_a_draw_to_a_royal(rt: HostRuntime) -> Result<(), Fail> {
+    let table = read_table(JACKS).ok_or("the table is refused")?;
+    let hand = hand_of([b"4s", b"Js", b"Qs", b"Ks", b"As"]).ok_or("no hand")?;
+    let mut words = vec![in rt.alloc(); 7u64; table_words(table.deck)]?;
+    let totals = totals_from::<Brand>(&table, &mut words, &hand, Blank::new(1));
+    assert_eq!(rt; totals, Some((875504, 866, 6)));
     Ok(())
 }

@@ -1,25 +1,10 @@
-use Rattle.std.proofs.Common.{◌≡◌, ◌+◌, length, ◌∙◌, arith, length-drop, length-take}
-use Rattle.vp_count.specs.Table.{first_word}
-use Rattle.vp_hold.proofs.Filled.{words_before, five_written, written_bounded}
 use Rattle.vp_hold.proofs.game.Game.fill.Goals as goal
-
-pub overflow_sub-first : goal.overflow_sub-first
-overflow_sub-first g c = omega (arith, words_before c.args.table.now.deck c.choose-hands.result c.args.words.now c.requires.long c.choose-hands.ensures)
-
-pub write_payments-requires-clause-long : goal.write_payments-requires-clause-long
-write_payments-requires-clause-long g c =
-    let long : length c.args.words.now ≡ first_word c.args.table.now.deck 5 + c.choose-hands.result = words_before c.args.table.now.deck c.choose-hands.result c.args.words.now c.requires.long c.choose-hands.ensures in
-    grind (arith, length-take, length-drop, c.choose-hands.ensures)
-
-pub fill-sums-requires-clause-bounded : goal.fill-sums-requires-clause-bounded
-fill-sums-requires-clause-bounded g c =
-    written_bounded c.args.table.now c.args.coin c.choose-hands.result c.args.words.now c.write_payments.new.numbers c.requires.table c.requires.long c.choose-hands.ensures c.write_payments.ensures.payments
 
 pub invariant_of-result : goal.invariant_of-result
 invariant_of-result g c = record {
   rules = c.requires.table;
   coin_from = c.requires.coin_from;
   coin_to = c.requires.coin_to;
-  size = c.fill-sums.ensures.size;
-  numbers = c.fill-sums.ensures.numbers ∙ five_written c.args.table.now.deck c.choose-hands.result c.args.words.now c.write_payments.new.numbers c.requires.long c.choose-hands.ensures ∙ c.write_payments.ensures.payments;
+  size = c.payment_sums-sums.ensures.size;
+  numbers = c.payment_sums-sums.ensures.numbers;
 }

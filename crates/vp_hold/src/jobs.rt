@@ -1,0 +1,63 @@
+//! Jobs whose time bench/deal takes.
+
+ghost use Rattle.std.specs.Prelude.{◌≡◌, ◌<◌, length};
+ghost use Rattle.vp_pay.specs.Table.{IsTable};
+ghost use Rattle.vp_count.specs.Table.{first_word};
+
+use crate::Game;
+use crate::plain::{DEALS, hand_of, is_of_deck};
+use std::marker::Brand;
+use std::sync::ledger::{Blank, Ledger};
+use std::test::*;
+use vp_count::table_words;
+use vp_pay::PayTable;
+use vp_wild::Steps;
+
+/// The ties of the best holds of the deals, added up.
+fn ties_of_deals(game: &Game) -> u64 {
+    let mut ties = 0u64;
+    for deal in &DEALS {
+        if let Some(hand) = hand_of(deal) {
+            if is_of_deck(game.table(), &hand) {
+                ties = ties.wrapping_add(u64::from(game.best(&hand).ties));
+            }
+        }
+    }
+    ties
+}
+
+/// The same, added up `turns` times.
+fn ties_of_best<L: Ledger>(table: &PayTable, turns: u32, words: &mut [u64], blank: Blank) -> u64
+    requires table { IsTable table.now }
+    requires long { length words.old ≡ first_word table.now.deck 6 }
+    requires name { blank.name ≡ L.name }
+    requires parts { blank.parts ≡ L.parts }
+    requires share { 0 < blank.parts }
+{
+    let game = Game::fill(table, 1, words, &mut Steps::<L>::new(blank));
+    let mut ties = 0u64;
+    for _ in 0..turns {
+        ties = ties.wrapping_add(ties_of_deals(&game));
+    }
+    ties
+}
+
+fn jacks_ties(rt: &HostRuntime, turns: u32) -> Result<u64, Fail> {
+    let table = PayTable::built_in(0).ok_or("no such table")?;
+    let mut words = vec![in rt.alloc(); 9u64; table_words(table.deck)]?;
+    Ok(ties_of_best::<Brand>(&table, turns, &mut words, Blank::new(1)))
+}
+
+#[test]
+fn one_table(rt: HostRuntime) -> Result<(), Fail> {
+    assert_eq!(rt; jacks_ties(&rt, 0)?, 0);
+    Ok(())
+}
+
+// Two tables, and the best hold for 240000 deals, and 12 more.
+#[test]
+fn many_deals(rt: HostRuntime) -> Result<(), Fail> {
+    let once = jacks_ties(&rt, 1)?;
+    assert_eq!(rt; jacks_ties(&rt, 20_000)?, once.wrapping_mul(20_000));
+    Ok(())
+}
