@@ -1,0 +1,260 @@
+-- Class lines and the return: each is read from its words, and from no others.
+use Rattle.std.proofs.Common.{◌≡◌, ℕ, ◌<◌, ◌≤◌, ◌^◌, Bool, true, false, cond, ◌&&◌, nat_lt, List, [], ◌∷◌, ◌++◌, map, length, refl, ap, subst, ◌∙◌, arith, Some, None, inl, inr, ◌⊎◌, length-append, append_assoc}
+use Rattle.std.specs.Prelude.{Option, option_map, codes}
+use Rattle.std.specs.Fmt.{decimal}
+use Rattle.std.specs.List.{AllByRecursion}
+use Rattle.std.proofs.lemmas.Bool.{lt-ltb, ltb-true}
+use Rattle.std.proofs.lemmas.List.{append-nil}
+use Rattle.std.proofs.lemmas.List.Elements.{All-from_recursion}
+use Rattle.vp_card.specs.Cards.{in_deck}
+use Rattle.vp_card.specs.Texts.{card_text}
+use Rattle.vp_card.specs.Reading.{card_of}
+use Rattle.vp_text.specs.Lines.{Word, next_is}
+use Rattle.vp_text.specs.Pieces.{ExactWord, so_many}
+use Rattle.vp_text.specs.Sections.{Exact, ExactLine, Keeps, on_item, Finish, rows_text, AreRows}
+use Rattle.vp_text.specs.Numbers.{number_of, number_within}
+use Rattle.vp_text.proofs.Numbers.{number_exact, number_within_exact}
+use Rattle.vp_text.proofs.Pieces.{both_true, bound, at_end, chosen, no_value, so, took, Exact-key_word, Exact-so_many, Exact-one_word}
+use Rattle.vp_text.proofs.Rows.{Exact-rows}
+use Rattle.vp_pay.proofs.Deals.{Exact-card}
+use Rattle.vp_pay.proofs.Tables.{of_all}
+use Rattle.vp_suit.specs.Classes.{IsDeal, representatives}
+use Rattle.vp_check.specs.Certificates.{IsClassLine}
+use Rattle.vp_check.specs.Reading.{rises, of_deck, class_of, next_class_of, return_of, class_or_return, class_lines}
+use Rattle.vp_check.specs.Spelling.{class_words, return_words}
+use Rattle.vp_check.specs.declared.class_line.ClassLine.{ClassLine}
+use Rattle.vp_check.proofs.Cards_grammar.{rises-increasing, increasing-rises}
+
+-- ---- cards
+
+all_below : (n : ℕ) (cards : List ℕ) → in_deck n cards ≡ true → AllByRecursion (λ card. card < n) cards
+all_below n [] is = tt
+all_below n (card ∷ cards) is =
+    let parts = both_true (nat_lt card n) (in_deck n cards) is in
+    (ltb-true card n parts.0, all_below n cards parts.1)
+
+below_all : (n : ℕ) (cards : List ℕ) → AllByRecursion (λ card. card < n) cards → in_deck n cards ≡ true
+below_all n [] all = refl
+below_all n (card ∷ cards) all = rw (lt-ltb card n all.0) (below_all n cards all.1)
+
+below_more : (n m : ℕ) (cards : List ℕ) → n ≤ m → AllByRecursion (λ card. card < n) cards → AllByRecursion (λ card. card < m) cards
+below_more n m [] most all = tt
+below_more n m (card ∷ cards) most all = (omega (arith, all.0), below_more n m cards most all.1)
+
+-- five rising cards of a deck are a deal
+pub rising_deal : (n : ℕ) (cards : List ℕ) → length cards ≡ 5 → rises cards ≡ true → in_deck n cards ≡ true → IsDeal n cards
+rising_deal n cards five rise below = record {
+  five = five;
+  set = record { rising = rises-increasing cards rise; below = All-from_recursion (λ card. card < n) cards (all_below n cards below) };
+}
+
+deal_below : (n : ℕ) (cards : List ℕ) → IsDeal n cards → AllByRecursion (λ card. card < n) cards
+deal_below n cards is = of_all (λ card. card < n) cards is.set.below
+
+-- ---- a class line
+
+Exact-weight : ExactWord decimal (λ weight. (1 ≤ weight) × (weight ≤ 24)) (number_within 1 24)
+Exact-weight = number_within_exact 1 24 (omega arith)
+
+Exact-mask : ExactWord decimal (λ mask. (0 ≤ mask) × (mask ≤ 31)) (number_within 0 31)
+Exact-mask = number_within_exact 0 31 (omega arith)
+
+-- the words of a line out of its pieces
+joined : (words w1 w2 w3 w4 w5 : List Word) (key : Word) (cards : List Word) (weight mask value : Word)
+    → words ≡ key ∷ w1 → w1 ≡ cards ++ w2 → w2 ≡ weight ∷ w3 → w3 ≡ mask ∷ w4 → w4 ≡ value ∷ w5 → w5 ≡ [] → key ∷ cards ++ weight ∷ mask ∷ value ∷ [] ≡ words
+joined words w1 w2 w3 w4 w5 key cards weight mask value e1 e2 e3 e4 e5 e6 = rw (e1, e2, e3, e4, e5, e6)
+
+class_taken : (n : ℕ) (words : List Word) (line : ClassLine) → class_of n words ≡ Some line → IsClassLine n line × (class_words line ≡ words)
+unfolding class_of class_words
+class_taken n words line read =
+    let key = bound _ _ _ read
+    in let cards = bound _ _ _ key.then
+    in let weight = bound _ _ _ cards.then
+    in let mask = bound _ _ _ weight.then
+    in let value = bound _ _ _ mask.then
+    in let made = bound _ _ _ value.then
+    in let end = at_end _ _ _ made.first
+    in let k = took (Exact-key_word (codes "class")) words key.value key.first
+    in let c = took (Exact-so_many Exact-card 5) key.value.1 cards.value cards.first
+    in let w = took (Exact-one_word Exact-weight) cards.value.1 weight.value weight.first
+    in let m = took (Exact-one_word Exact-mask) weight.value.1 mask.value mask.first
+    in let v = took (Exact-one_word number_exact) mask.value.1 value.value value.first
+    in let l : ClassLine = record { hand = cards.value.0; weight = weight.value.0; mask = mask.value.0; value = value.value.0 }
+    in let P : ClassLine → Type 0 = λ l. IsClassLine n l × (class_words l ≡ words)
+    in let spelled : class_words l ≡ words =
+    joined words _ _ _ _ _ (codes "class") (map card_text cards.value.0) (decimal weight.value.0) (decimal mask.value.0) (decimal value.value.0) k.front c.front w.front m.front v.front end.0
+    in let then : of_deck n l ≡ Some line = ap (of_deck n) end.1 ∙ made.then
+    in chosen P (rises l.hand && in_deck n l.hand) (Some l) None line then
+    (λ is e.
+    let parts = both_true (rises l.hand) (in_deck n l.hand) is
+    in so P l line e (
+      record {
+        deal = rising_deal n l.hand c.valid.count parts.0 parts.1;
+        some_weight = w.valid.0;
+        most_weight = w.valid.1;
+        mask = omega (arith, m.valid.1);
+        value = v.valid;
+      },
+      spelled,
+    ))
+    (λ e. absurd (no_value line e))
+
+class_again : (n : ℕ) (line : ClassLine) → n ≤ 53 → IsClassLine n line → class_of n (class_words line) ≡ Some line
+unfolding class_of class_words
+class_again n line most is =
+    let below = deal_below n line.hand is.deal in
+    let rest : List Word = decimal line.weight ∷ decimal line.mask ∷ decimal line.value ∷ [] in
+    let cards : so_many card_of 5 (map card_text line.hand ++ rest) ≡ Some (line.hand, rest) =
+    (Exact-so_many Exact-card 5).again rest line.hand (record { count = is.deal.five; all = below_more n 53 line.hand most below }) refl in
+    let weight : number_within 1 24 (decimal line.weight) ≡ Some line.weight = Exact-weight.again line.weight (is.some_weight, is.most_weight) in
+    let mask : number_within 0 31 (decimal line.mask) ≡ Some line.mask = Exact-mask.again line.mask (omega arith, omega (arith, is.mask)) in
+    let value : number_of (decimal line.value) ≡ Some line.value = number_exact.again line.value is.value in
+    rw (cards, weight, mask, value, increasing-rises line.hand is.deal.set.rising, below_all n line.hand below)
+
+pub Exact-class : (n : ℕ) → n ≤ 53 → ExactLine class_words (IsClassLine n) (class_of n)
+Exact-class n most = record {
+  takes = λ words line read. class_taken n words line read;
+  again = λ line is. class_again n line most is;
+}
+
+-- ---- the return
+
+-- both are numbers
+abbrev pub IsReturn : ℕ × ℕ → Type 0
+IsReturn r = (r.0 < 2 ^ 64) × (r.1 < 2 ^ 64)
+
+abbrev pub words_of_return : ℕ × ℕ → List Word
+words_of_return r = return_words r.0 r.1
+
+return_joined : (words w1 w2 w3 w4 : List Word) (key sum over denominator : Word)
+    → words ≡ key ∷ w1 → w1 ≡ sum ∷ w2 → w2 ≡ over ∷ w3 → w3 ≡ denominator ∷ w4 → w4 ≡ [] → key ∷ sum ∷ over ∷ denominator ∷ [] ≡ words
+return_joined words w1 w2 w3 w4 key sum over denominator e1 e2 e3 e4 e5 = rw (e1, e2, e3, e4, e5)
+
+return_taken : (words : List Word) (r : ℕ × ℕ) → return_of words ≡ Some r → IsReturn r × (words_of_return r ≡ words)
+unfolding return_of return_words
+return_taken words r read =
+    let key = bound _ _ _ read
+    in let sum = bound _ _ _ key.then
+    in let over = bound _ _ _ sum.then
+    in let denominator = bound _ _ _ over.then
+    in let end = at_end _ _ _ denominator.then
+    in let k = took (Exact-key_word (codes "return")) words key.value key.first
+    in let s = took (Exact-one_word number_exact) key.value.1 sum.value sum.first
+    in let o = took (Exact-key_word (codes "/")) sum.value.1 over.value over.first
+    in let d = took (Exact-one_word number_exact) over.value.1 denominator.value denominator.first
+    in let P : ℕ × ℕ → Type 0 = λ r. IsReturn r × (words_of_return r ≡ words)
+    in subst P end.1 (
+      (s.valid, d.valid),
+      return_joined words _ _ _ _ (codes "return") (decimal sum.value.0) (codes "/") (decimal denominator.value.0) k.front s.front o.front d.front end.0,
+    )
+
+return_again : (r : ℕ × ℕ) → IsReturn r → return_of (words_of_return r) ≡ Some r
+unfolding return_of return_words
+return_again r is =
+    let sum : number_of (decimal r.0) ≡ Some r.0 = number_exact.again r.0 is.0 in
+    let denominator : number_of (decimal r.1) ≡ Some r.1 = number_exact.again r.1 is.1 in
+    rw (sum, denominator)
+
+-- ---- class lines up to the return
+
+-- a class line may follow these
+pub record MayFollow (n : ℕ) (front : List ClassLine) (line : ClassLine) : Type 0 where
+  pub class : IsClassLine n line
+  pub room : length front < length (representatives n)
+
+next_taken : (n : ℕ) (front : List ClassLine) (words : List Word) (line : ClassLine) → n ≤ 53 → next_class_of n front words ≡ Some line → MayFollow n front line × (class_words line ≡ words)
+unfolding next_class_of
+next_taken n front words line most read =
+    let first = bound _ _ _ read in
+    let l = (Exact-class n most).takes words first.value first.first in
+    let P : ClassLine → Type 0 = λ l. MayFollow n front l × (class_words l ≡ words) in
+    chosen P (nat_lt (length front) (length (representatives n))) (Some first.value) None line first.then
+    (λ is e. so P first.value line e (record { class = l.0; room = ltb-true (length front) (length (representatives n)) is }, l.1))
+    (λ e. absurd (no_value line e))
+
+next_again : (n : ℕ) (front : List ClassLine) (line : ClassLine) → n ≤ 53 → MayFollow n front line → next_class_of n front (class_words line) ≡ Some line
+unfolding next_class_of
+next_again n front line most is =
+    rw ((Exact-class n most).again line is.class, lt-ltb (length front) (length (representatives n)) is.room)
+
+-- a row: a class line, or the return
+abbrev pub row_words : ClassLine ⊎ (ℕ × ℕ) → List Word
+row_words (inl line) = class_words line
+row_words (inr r) = words_of_return r
+
+abbrev pub RowRule : ℕ → List ClassLine → ClassLine ⊎ (ℕ × ℕ) → Type 0
+RowRule n front (inl line) = MayFollow n front line
+RowRule n front (inr r) = IsReturn r
+
+as_class : ClassLine → ClassLine ⊎ (ℕ × ℕ)
+as_class line = inl line
+
+as_return : ℕ × ℕ → ClassLine ⊎ (ℕ × ℕ)
+as_return r = inr r
+
+row_taken : (n : ℕ) (front : List ClassLine) (words : List Word) (row : ClassLine ⊎ (ℕ × ℕ)) → n ≤ 53 → class_or_return n front words ≡ Some row → RowRule n front row × (row_words row ≡ words)
+unfolding class_or_return as_class as_return
+row_taken n front words row most read = by_key (next_is (codes "return") words) read
+  where
+    P : ClassLine ⊎ (ℕ × ℕ) → Type 0
+    P row = RowRule n front row × (row_words row ≡ words)
+
+    a_return : (o : Option (ℕ × ℕ)) → return_of words ≡ o → option_map as_return o ≡ Some row → P row
+    a_return None is e = absurd (no_value row e)
+    a_return (Some r) is e = so P (inr r) row e (return_taken words r is)
+
+    a_class : (o : Option ClassLine) → next_class_of n front words ≡ o → option_map as_class o ≡ Some row → P row
+    a_class None is e = absurd (no_value row e)
+    a_class (Some line) is e = so P (inl line) row e (next_taken n front words line most is)
+
+    by_key : (b : Bool) → cond b (option_map as_return (return_of words)) (option_map as_class (next_class_of n front words)) ≡ Some row → P row
+    by_key true e = a_return (return_of words) refl e
+    by_key false e = a_class (next_class_of n front words) refl e
+
+class_is : (line : ClassLine) → next_is (codes "return") (class_words line) ≡ false
+unfolding class_words
+class_is line = refl
+
+return_is : (r : ℕ × ℕ) → next_is (codes "return") (words_of_return r) ≡ true
+unfolding return_words
+return_is r = refl
+
+row_again : (n : ℕ) (front : List ClassLine) (row : ClassLine ⊎ (ℕ × ℕ)) → n ≤ 53 → RowRule n front row → class_or_return n front (row_words row) ≡ Some row
+unfolding class_or_return as_class as_return
+row_again n front (inl line) most is =
+    let other : next_is (codes "return") (class_words line) ≡ false = class_is line in
+    ap (λ (b : Bool). cond b (option_map as_return (return_of (class_words line))) (option_map as_class (next_class_of n front (class_words line)))) other
+    ∙ ap (option_map as_class) (next_again n front line most is)
+row_again n front (inr r) most is =
+    let this : next_is (codes "return") (words_of_return r) ≡ true = return_is r in
+    ap (λ (b : Bool). cond b (option_map as_return (return_of (words_of_return r))) (option_map as_class (next_class_of n front (words_of_return r)))) this
+    ∙ ap (option_map as_return) (return_again r is)
+
+Exact-row : (n : ℕ) → n ≤ 53 → (front : List ClassLine) → ExactLine row_words (RowRule n front) (class_or_return n front)
+Exact-row n most front = record {
+  takes = λ words row read. row_taken n front words row most read;
+  again = λ row is. row_again n front row most is;
+}
+
+-- behind any class lines the return can follow
+finish : (n : ℕ) (front : List ClassLine) → Finish (RowRule n) front
+finish n front = record { more = []; close = (0, 0); keeps = tt; closes = (omega arith, omega arith) }
+
+pub Exact-class_lines : (n : ℕ) → n ≤ 53 → Exact (rows_text row_words) (AreRows (RowRule n)) (class_lines n)
+Exact-class_lines n most = Exact-rows row_words (RowRule n) (class_or_return n) (Exact-row n most) (λ front keeps. finish n front)
+
+-- ---- class lines that keep their rules one after another
+
+pub keeps_are : (n : ℕ) (front more : List ClassLine) → Keeps (on_item (RowRule n)) front more → length front ≤ length (representatives n)
+    → AllByRecursion (IsClassLine n) more × (length (front ++ more) ≤ length (representatives n))
+keeps_are n front [] keeps room = (tt, rw (append-nil front) room)
+keeps_are n front (line ∷ more) keeps room =
+    let rest = keeps_are n (front ++ line ∷ []) more keeps.1 (omega (arith, length-append front (line ∷ []), keeps.0.room)) in
+    ((keeps.0.class, rest.0), rw (← append_assoc front (line ∷ []) more) rest.1)
+
+pub are_keeps : (n : ℕ) (front more : List ClassLine) → AllByRecursion (IsClassLine n) more → length (front ++ more) ≤ length (representatives n) → Keeps (on_item (RowRule n)) front more
+are_keeps n front [] all room = tt
+are_keeps n front (line ∷ more) all room = (
+  record { class = all.0; room = omega (arith, length-append front (line ∷ more)) },
+  are_keeps n (front ++ line ∷ []) more all.1 (rw (append_assoc front (line ∷ []) more) room),
+)

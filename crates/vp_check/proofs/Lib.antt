@@ -1,0 +1,13 @@
+pub mod Breaches
+pub mod Cards_grammar
+pub mod Certificates_grammar
+pub mod Classes_grammar
+pub mod KeptRules
+pub mod TrueOnes
+pub mod Follows
+pub mod Counted_grammar
+pub mod Read_grammar
+pub mod Lines_grammar
+pub mod Walked
+pub mod Verdicts
+pub mod Answered

@@ -1,0 +1,245 @@
+-- What true certificates say of all deals, and the true certificate whose masks are the least best ones.
+use Rattle.std.proofs.Common.{◌≡◌, ℕ, ◌+◌, ◌*◌, ◌<◌, ◌≤◌, Bool, true, false, ◌==◌, None, List, [], ◌∷◌, length, map, get_or, refl, ap, sym, subst, ◌∙◌, arith, lit≤}
+use Rattle.std.specs.List.{All, sum_by}
+use Rattle.std.specs.List.Sorted.{IsStrictlyIncreasing}
+use Rattle.std.proofs.lemmas.List.{length-map}
+use Rattle.std.proofs.lemmas.List.Elements.{All-head, All-tail, All-map, All-contains}
+use Rattle.std.proofs.lemmas.List.Sums.{sum_by-cons}
+use Rattle.vp_pay.specs.declared.table.PayTable.{PayTable}
+use Rattle.vp_pay.specs.Table.{IsTable}
+use Rattle.vp_sets.specs.Index.{set_index}
+use Rattle.vp_sets.proofs.Rising.{rising_from}
+use Rattle.vp_sets.proofs.Colex.{increasing_from}
+use Rattle.vp_draws.specs.Draws.{best, least_best, sum_of_best, value}
+use Rattle.vp_draws.proofs.Chosen.{least_best_small, least_best_value, value_le_best}
+use Rattle.vp_draws.proofs.Bounds.{best_fits, sum_of_best_fits}
+use Rattle.vp_draws.proofs.TurnedValues.{best_by_classes, best_from}
+use Rattle.vp_suit.specs.Heaps.{heap}
+use Rattle.vp_suit.specs.Turns.{turn}
+use Rattle.vp_suit.specs.Classes.{IsDeal, is_representative, representatives, weight}
+use Rattle.vp_suit.proofs.TurnedDraws.{dealt_is}
+use Rattle.vp_suit.proofs.Weights.{images_by, images-1, images-4, images-6, images-12, images-24}
+use Rattle.vp_suit.proofs.Representatives.{weight_is}
+use Rattle.vp_suit.proofs.ClassLaws.{representatives_only, representatives_rise}
+use Rattle.vp_suit.proofs.Cover.{weights_of_all, cover}
+use Rattle.vp_check.specs.Certificates.{Certificate, IsCertificate, IsClassLine}
+use Rattle.vp_check.specs.Rules.{denominator_of}
+use Rattle.vp_check.specs.Truth.{AllWalked, hands, KeepsRules, IsTrueOver, IsTrueCertificate, due_line, due_certificate, SumsAllDeals, HoldsAreBest}
+use Rattle.vp_check.specs.declared.class_line.ClassLine.{ClassLine}
+use Rattle.vp_check.proofs.Breaches.{denominator_fits}
+use Rattle.vp_check.proofs.KeptRules.{all_kept, kept_all, each_kept, each_walked, rising_lines, from_parts}
+
+-- ---- no broken rule is to keep all rules
+
+-- the value of a class line's mask is at most the best
+mask_le : (table : PayTable) (coin : ℕ) (line : ClassLine) → IsClassLine table.deck line → value table coin line.hand line.mask ≤ best table coin line.hand
+mask_le table coin line is = value_le_best table coin line.hand line.mask is.mask
+
+pub keeps_rules : (from count : ℕ) (c : Certificate) → IsCertificate c → IsTrueOver from count c → KeepsRules from count c
+keeps_rules from count c is e =
+    let k = all_kept from count c e in
+    record {
+      least = each_kept (λ line. is_representative line.hand ≡ true) c.table c.coin from count 1 None c.classes (λ walked last line h. h.least) k.0;
+      rising = increasing_from _ (rising_lines c.table c.coin from count 1 None c.classes k.0);
+      weights = each_kept (λ line. line.weight ≡ weight line.hand) c.table c.coin from count 1 None c.classes (λ walked last line h. h.weighs) k.0;
+      values = each_walked (λ line. line.value ≡ best c.table c.coin line.hand) c.table c.coin from count 1 None c.classes (λ last line h. h.worth refl) k.0;
+      masks = λ i d l a b.
+          let high : best c.table c.coin (get_or c.classes i d).hand ≤ value c.table c.coin (get_or c.classes i d).hand (get_or c.classes i d).mask =
+          each_walked (λ line. best c.table c.coin line.hand ≤ value c.table c.coin line.hand line.mask) c.table c.coin from count 1 None c.classes (λ last line h. h.held refl) k.0 i d l a b in
+          let low : value c.table c.coin (get_or c.classes i d).hand (get_or c.classes i d).mask ≤ best c.table c.coin (get_or c.classes i d).hand = mask_le c.table c.coin (get_or c.classes i d) (is.classes i d l) in
+          omega arith;
+      cover = k.1.cover;
+      sum = k.1.total;
+      denominator = k.1.over;
+    }
+
+pub rules_kept : (from count : ℕ) (c : Certificate) → KeepsRules from count c → IsTrueOver from count c
+rules_kept from count c k =
+    kept_all from count c
+    (from_parts c.table c.coin from count 1 None c.classes k.least (rising_from _ k.rising) tt k.weights k.values (λ i d l a b. let e : value c.table c.coin (get_or c.classes i d).hand (get_or c.classes i d).mask ≡ best c.table c.coin (get_or c.classes i d).hand = k.masks i d l a b in omega arith))
+    (record { cover = k.cover; total = k.sum; over = k.denominator })
+
+-- where all class lines are walked, no more is asked of them
+pub all_walked_true : (from count : ℕ) (c : Certificate) → IsCertificate c → from ≤ 1 → length c.classes < from + count → IsTrueOver from count c → IsTrueCertificate c
+all_walked_true from count c is low high e =
+    let k : KeepsRules from count c = keeps_rules from count c is e in
+    rules_kept 1 (length c.classes) c (record {
+      least = k.least;
+      rising = k.rising;
+      weights = k.weights;
+      values = λ i d l a b. k.values i d l (omega arith) (omega arith);
+      masks = λ i d l a b. k.masks i d l (omega arith) (omega arith);
+      cover = k.cover;
+      sum = k.sum;
+      denominator = k.denominator;
+    })
+
+-- ---- sums over class lines are sums over their cards
+
+sum_same : (f : ClassLine → ℕ) (g : List ℕ → ℕ) (lines : List ClassLine) → All (λ line. f line ≡ g line.hand) lines → sum_by f lines ≡ sum_by g (map (λ line. line.hand) lines)
+sum_same f g [] h = refl
+sum_same f g (line ∷ lines) h =
+    let first : f line ≡ g line.hand = All-head (λ x. f x ≡ g x.hand) line lines h in
+    let rest : sum_by f lines ≡ sum_by g (map (λ x. x.hand) lines) = sum_same f g lines (All-tail (λ x. f x ≡ g x.hand) line lines h) in
+    let a : sum_by f (line ∷ lines) ≡ f line + sum_by f lines = sum_by-cons f line lines in
+    let b : sum_by g (line.hand ∷ map (λ x. x.hand) lines) ≡ g line.hand + sum_by g (map (λ x. x.hand) lines) = sum_by-cons g line.hand (map (λ x. x.hand) lines) in
+    omega arith
+
+-- ---- true certificates
+
+all_both : {X : Type 0} (P Q : X → Type 0) (xs : List X) → All P xs → All Q xs → All (λ x. P x × Q x) xs
+all_both P Q xs p q k d l = (p k d l, q k d l)
+
+-- the class lines of a true certificate are all representatives
+pub true_classes : (from count : ℕ) (c : Certificate) → IsCertificate c → KeepsRules from count c → hands c ≡ representatives c.table.deck
+true_classes from count c is k =
+    let each : All (λ cards. IsDeal c.table.deck cards × (is_representative cards ≡ true)) (hands c) =
+    All-map (λ cards. IsDeal c.table.deck cards × (is_representative cards ≡ true)) (λ line. line.hand) c.classes (λ i d l. ((is.classes i d l).deal, k.least i d l)) in
+    cover c.table.deck (hands c) is.table.least_deck (record { each = each; rise = k.rising }) (sym (sum_same (λ line. line.weight) (λ cards. weight cards) c.classes k.weights) ∙ k.cover)
+
+-- all lines are walked
+all_walked : (P : ClassLine → Type 0) (lines : List ClassLine) → AllWalked 1 (length lines) P lines → All P lines
+all_walked P lines h i d l = h i d l (omega arith) (omega arith)
+
+walked_all : (P : ClassLine → Type 0) (from count : ℕ) (lines : List ClassLine) → All P lines → AllWalked from count P lines
+walked_all P from count lines h i d l a b = h i d l
+
+true_sum : (c : Certificate) → IsCertificate c → KeepsRules 1 (length c.classes) c → c.sum ≡ sum_of_best c.table c.coin
+true_sum c is k =
+    let worth : All (λ line. line.value ≡ best c.table c.coin line.hand) c.classes = all_walked (λ line. line.value ≡ best c.table c.coin line.hand) c.classes k.values in
+    let products : All (λ line. line.weight * line.value ≡ weight line.hand * best c.table c.coin line.hand) c.classes =
+    λ i d l. ap (λ w. w * (get_or c.classes i d).value) (k.weights i d l) ∙ ap (λ v. weight (get_or c.classes i d).hand * v) (worth i d l) in
+    k.sum
+    ∙ sum_same (λ line. line.weight * line.value) (λ cards. weight cards * best c.table c.coin cards) c.classes products
+    ∙ ap (λ (x : List (List ℕ)). sum_by (λ cards. weight cards * best c.table c.coin cards) x) (true_classes 1 (length c.classes) c is k)
+    ∙ best_by_classes c.coin c.table is.table.least_deck
+
+pub sums_all_deals : (c : Certificate) → IsCertificate c → IsTrueCertificate c → SumsAllDeals c
+sums_all_deals c is e =
+    let k : KeepsRules 1 (length c.classes) c = keeps_rules 1 (length c.classes) c is e in
+    record { classes = true_classes 1 (length c.classes) c is k; sum = true_sum c is k; denominator = k.denominator }
+
+pub holds_are_best : (c : Certificate) → IsCertificate c → IsTrueCertificate c → HoldsAreBest c
+holds_are_best c is e t mask cards line lt lm d there same held =
+    let k : KeepsRules 1 (length c.classes) c = keeps_rules 1 (length c.classes) c is e in
+    let masks : All (λ line. value c.table c.coin line.hand line.mask ≡ best c.table c.coin line.hand) c.classes =
+    all_walked (λ line. value c.table c.coin line.hand line.mask ≡ best c.table c.coin line.hand) c.classes k.masks in
+    let here : value c.table c.coin line.hand line.mask ≡ best c.table c.coin line.hand = All-contains (λ x. value c.table c.coin x.hand x.mask ≡ best c.table c.coin x.hand) c.classes line masks there in
+    let turned : value c.table c.coin (turn t cards) line.mask ≡ best c.table c.coin (turn t cards) = subst (λ (x : List ℕ). value c.table c.coin x line.mask ≡ best c.table c.coin x) same here in
+    best_from t mask c.coin c.table cards is.table.least_deck lt d (ap (λ m. value c.table c.coin (turn t cards) m) held ∙ turned)
+
+-- ---- the true certificate with the least best masks
+
+images_few : (a b c : Bool) → (1 ≤ images_by a b c) × (images_by a b c ≤ 24)
+images_few true true true = rw images-1 (lit≤ tt, lit≤ tt)
+images_few true true false = rw images-4.0 (lit≤ tt, lit≤ tt)
+images_few false true true = rw images-4.1 (lit≤ tt, lit≤ tt)
+images_few true false true = rw images-6 (lit≤ tt, lit≤ tt)
+images_few true false false = rw images-12.0 (lit≤ tt, lit≤ tt)
+images_few false true false = rw images-12.1 (lit≤ tt, lit≤ tt)
+images_few false false true = rw images-12.2 (lit≤ tt, lit≤ tt)
+images_few false false false = rw images-24 (lit≤ tt, lit≤ tt)
+
+weight_few : (n : ℕ) (cards : List ℕ) → 52 ≤ n → IsDeal n cards → is_representative cards ≡ true → (1 ≤ weight cards) × (weight cards ≤ 24)
+weight_few n cards big d stands = rw (weight_is n cards big d stands) (images_few (heap 0 cards == heap 1 cards) (heap 1 cards == heap 2 cards) (heap 2 cards == heap 3 cards))
+
+due_class_line : (table : PayTable) (coin : ℕ) (cards : List ℕ) → IsTable table → IsDeal table.deck cards → is_representative cards ≡ true → IsClassLine table.deck (due_line table coin cards)
+unfolding due_line
+due_class_line table coin cards t d stands = record {
+  deal = d;
+  some_weight = (weight_few table.deck cards t.least_deck d stands).0;
+  most_weight = (weight_few table.deck cards t.least_deck d stands).1;
+  mask = least_best_small table coin cards;
+  value = best_fits table coin cards t (dealt_is table.deck cards d);
+}
+
+pub due_is_certificate : (table : PayTable) (coin : ℕ) → IsTable table → 1 ≤ coin → coin ≤ table.coins → IsCertificate (due_certificate table coin)
+unfolding due_certificate denominator_of
+due_is_certificate table coin t some most = record {
+  table = t;
+  some_coin = some;
+  most_coin = most;
+  classes = All-map (IsClassLine table.deck) (due_line table coin) (representatives table.deck) (λ i d l. let r = representatives_only table.deck i d l in due_class_line table coin (get_or (representatives table.deck) i d) t r.0 r.1);
+  most_classes = omega (arith, length-map (representatives table.deck) (due_line table coin));
+  sum = sum_of_best_fits table coin t;
+  denominator = denominator_fits table.deck coin t.least_deck t.greatest_deck (let m : table.coins ≤ 5 = t.most_coins in omega arith);
+}
+
+due_hands : (table : PayTable) (coin : ℕ) (rs : List (List ℕ)) → map (λ line. line.hand) (map (due_line table coin) rs) ≡ rs
+unfolding due_line
+due_hands table coin [] = refl
+due_hands table coin (r ∷ rs) = ap (λ (x : List (List ℕ)). r ∷ x) (due_hands table coin rs)
+
+-- what holds of each due line
+due_lines : (P : ClassLine → Type 0) (table : PayTable) (coin : ℕ) → ((cards : List ℕ) → IsDeal table.deck cards → is_representative cards ≡ true → P (due_line table coin cards)) → All P (map (due_line table coin) (representatives table.deck))
+due_lines P table coin h = All-map P (due_line table coin) (representatives table.deck) (λ i d l. let r = representatives_only table.deck i d l in h (get_or (representatives table.deck) i d) r.0 r.1)
+
+due_weights : (table : PayTable) (coin : ℕ) → All (λ line. line.weight ≡ weight line.hand) (map (due_line table coin) (representatives table.deck))
+unfolding due_line
+due_weights table coin = due_lines (λ line. line.weight ≡ weight line.hand) table coin (λ cards d s. refl)
+
+due_products : (table : PayTable) (coin : ℕ) → All (λ line. line.weight * line.value ≡ weight line.hand * best table coin line.hand) (map (due_line table coin) (representatives table.deck))
+unfolding due_line
+due_products table coin = due_lines (λ line. line.weight * line.value ≡ weight line.hand * best table coin line.hand) table coin (λ cards d s. refl)
+
+due_keeps : (from count : ℕ) (table : PayTable) (coin : ℕ) → IsTable table → KeepsRules from count (due_certificate table coin)
+unfolding due_certificate due_line
+due_keeps from count table coin t =
+    let lines : List ClassLine = map (due_line table coin) (representatives table.deck) in
+    let back : map (λ line. line.hand) lines ≡ representatives table.deck = due_hands table coin (representatives table.deck) in
+    record {
+      least = due_lines (λ line. is_representative line.hand ≡ true) table coin (λ cards d s. s);
+      rising = subst (λ (x : List (List ℕ)). IsStrictlyIncreasing (map set_index x)) (sym back) (representatives_rise table.deck);
+      weights = due_weights table coin;
+      values = walked_all (λ line. line.value ≡ best table coin line.hand) from count lines (due_lines (λ line. line.value ≡ best table coin line.hand) table coin (λ cards d s. refl));
+      masks = walked_all (λ line. value table coin line.hand line.mask ≡ best table coin line.hand) from count lines (due_lines (λ line. value table coin line.hand line.mask ≡ best table coin line.hand) table coin (λ cards d s. least_best_value table coin cards));
+      cover = sum_same (λ line. line.weight) (λ cards. weight cards) lines (due_weights table coin) ∙ ap (λ (x : List (List ℕ)). sum_by (λ cards. weight cards) x) back ∙ weights_of_all table.deck t.least_deck;
+      sum = sym (sum_same (λ line. line.weight * line.value) (λ cards. weight cards * best table coin cards) lines (due_products table coin) ∙ ap (λ (x : List (List ℕ)). sum_by (λ cards. weight cards * best table coin cards) x) back ∙ best_by_classes coin table t.least_deck);
+      denominator = refl;
+    }
+
+pub due_is_true : (table : PayTable) (coin : ℕ) → IsTable table → IsTrueCertificate (due_certificate table coin)
+due_is_true table coin t = rules_kept 1 (length (due_certificate table coin).classes) (due_certificate table coin) (due_keeps 1 (length (due_certificate table coin).classes) table coin t)
+
+-- ---- there is no other
+
+line_of : List ℕ → ℕ → ℕ → ℕ → ClassLine
+line_of hand weight mask value = record { hand = hand; weight = weight; mask = mask; value = value }
+
+due_line_only : (table : PayTable) (coin : ℕ) (line : ClassLine) → line.weight ≡ weight line.hand → line.mask ≡ least_best table coin line.hand → line.value ≡ best table coin line.hand → line ≡ due_line table coin line.hand
+unfolding due_line line_of
+due_line_only table coin line w m v =
+    ap (λ x. line_of line.hand x line.mask line.value) w
+    ∙ ap (λ x. line_of line.hand (weight line.hand) x line.value) m
+    ∙ ap (λ x. line_of line.hand (weight line.hand) (least_best table coin line.hand) x) v
+
+due_lines_only : (table : PayTable) (coin : ℕ) (lines : List ClassLine) → All (λ line. line.weight ≡ weight line.hand) lines → All (λ line. line.mask ≡ least_best table coin line.hand) lines
+    → All (λ line. line.value ≡ best table coin line.hand) lines → lines ≡ map (due_line table coin) (map (λ line. line.hand) lines)
+due_lines_only table coin [] w m v = refl
+due_lines_only table coin (line ∷ lines) w m v =
+    let first : line ≡ due_line table coin line.hand =
+    due_line_only table coin line (All-head (λ x. x.weight ≡ weight x.hand) line lines w) (All-head (λ x. x.mask ≡ least_best table coin x.hand) line lines m) (All-head (λ x. x.value ≡ best table coin x.hand) line lines v) in
+    let rest : lines ≡ map (due_line table coin) (map (λ x. x.hand) lines) =
+    due_lines_only table coin lines (All-tail (λ x. x.weight ≡ weight x.hand) line lines w) (All-tail (λ x. x.mask ≡ least_best table coin x.hand) line lines m) (All-tail (λ x. x.value ≡ best table coin x.hand) line lines v) in
+    ap (λ (x : ClassLine). x ∷ lines) first ∙ ap (λ (x : List ClassLine). due_line table coin line.hand ∷ x) rest
+
+certificate_with : PayTable → ℕ → List ClassLine → ℕ → ℕ → Certificate
+certificate_with table coin classes sum denominator = record { table = table; coin = coin; classes = classes; sum = sum; denominator = denominator }
+
+own_due : (c : Certificate) → IsCertificate c → IsTrueCertificate c → All (λ line. line.mask ≡ least_best c.table c.coin line.hand) c.classes → c ≡ due_certificate c.table c.coin
+unfolding due_certificate certificate_with
+own_due c is e masks =
+    let k : KeepsRules 1 (length c.classes) c = keeps_rules 1 (length c.classes) c is e in
+    let lines : c.classes ≡ map (due_line c.table c.coin) (representatives c.table.deck) =
+    due_lines_only c.table c.coin c.classes k.weights masks (all_walked (λ line. line.value ≡ best c.table c.coin line.hand) c.classes k.values)
+    ∙ ap (λ (x : List (List ℕ)). map (due_line c.table c.coin) x) (true_classes 1 (length c.classes) c is k) in
+    ap (λ (x : List ClassLine). certificate_with c.table c.coin x c.sum c.denominator) lines
+    ∙ ap (λ x. certificate_with c.table c.coin (map (due_line c.table c.coin) (representatives c.table.deck)) x c.denominator) (true_sum c is k)
+    ∙ ap (λ x. certificate_with c.table c.coin (map (due_line c.table c.coin) (representatives c.table.deck)) (sum_of_best c.table c.coin) x) k.denominator
+
+pub due_only : (table : PayTable) (coin : ℕ) (c : Certificate) → IsCertificate c → IsTrueCertificate c → c.table ≡ table → c.coin ≡ coin
+    → All (λ line. line.mask ≡ least_best table coin line.hand) c.classes → c ≡ due_certificate table coin
+due_only table coin c is e same_table same_coin masks =
+    let here : All (λ line. line.mask ≡ least_best c.table coin line.hand) c.classes = subst (λ (t : PayTable). All (λ line. line.mask ≡ least_best t coin line.hand) c.classes) (sym same_table) masks in
+    let own : All (λ line. line.mask ≡ least_best c.table c.coin line.hand) c.classes = subst (λ (x : ℕ). All (λ line. line.mask ≡ least_best c.table x line.hand) c.classes) (sym same_coin) here in
+    own_due c is e own ∙ ap (λ (t : PayTable). due_certificate t c.coin) same_table ∙ ap (λ (x : ℕ). due_certificate table x) same_coin

@@ -1,0 +1,11 @@
+pub mod Certificates
+pub mod Checking
+pub mod Counting
+pub mod Read
+pub mod Reading
+pub mod Rows
+pub mod Rules
+pub mod Spelling
+pub mod Truth
+pub mod Walks
+pub mod Answers

@@ -1,0 +1,95 @@
+-- How a certificate is read from left to right.
+use Rattle.std.specs.Prelude.{ℕ, Bool, true, ◌&&◌, nat_lt, List, [], ◌∷◌, length, Option, Some, None, option_map, ◌⊎◌, codes, if◌then◌else◌}
+use Rattle.std.proofs.Common.{inl, inr}
+use Rattle.vp_card.specs.Cards.{in_deck}
+use Rattle.vp_card.specs.Reading.{card_of}
+use Rattle.vp_text.specs.Lines.{Word, next_is}
+use Rattle.vp_text.specs.Numbers.{number_of, number_within}
+use Rattle.vp_text.specs.Pieces.{◌>>=◌, one_word, so_many, key_word, ended, keyed}
+use Rattle.vp_text.specs.Reading.{one_line, both, rows, mapped}
+use Rattle.vp_text.specs.Sections.{Reader}
+use Rattle.vp_pay.specs.Sections.{table_at}
+use Rattle.vp_pay.specs.declared.table.PayTable.{PayTable}
+use Rattle.vp_suit.specs.Classes.{representatives}
+use Rattle.vp_check.specs.Certificates.{Certificate}
+use Rattle.vp_check.specs.declared.class_line.ClassLine.{ClassLine}
+
+-- ---- class lines
+
+-- each card is above the card before
+abbrev pub rises : List ℕ → Bool
+rises [] = true
+rises (card ∷ []) = true
+rises (card ∷ next ∷ cards) = nat_lt card next && rises (next ∷ cards)
+
+-- this class line, where its cards rise and are of a deck of n
+abbrev pub of_deck : ℕ → ClassLine → Option ClassLine
+of_deck n line = if rises line.hand && in_deck n line.hand then Some line else None
+
+-- `class`, five rising cards of a deck of n, a weight from 1 to 24, a mask from 0 to 31, and a number
+unfoldable pub class_of : ℕ → List Word → Option ClassLine
+class_of n words = do
+  key ← key_word (codes "class") words
+  cards ← so_many card_of 5 key.1
+  weight ← one_word (number_within 1 24) cards.1
+  mask ← one_word (number_within 0 31) weight.1
+  value ← one_word number_of mask.1
+  line ← ended (record { hand = cards.0; weight = weight.0; mask = mask.0; value = value.0 }) value.1
+  of_deck n line
+
+-- a class line may follow these: there are fewer than a deck of n has classes
+abbrev pub may_follow : ℕ → List ClassLine → ClassLine → Option ClassLine
+may_follow n lines line = if nat_lt (length lines) (length (representatives n)) then Some line else None
+
+unfoldable pub next_class_of : ℕ → List ClassLine → List Word → Option ClassLine
+next_class_of n lines words = do
+  line ← class_of n words
+  may_follow n lines line
+
+-- ---- the return
+
+-- `return`, a number, `/`, and a number
+unfoldable pub return_of : List Word → Option (ℕ × ℕ)
+return_of words = do
+  key ← key_word (codes "return") words
+  sum ← one_word number_of key.1
+  over ← key_word (codes "/") sum.1
+  denominator ← one_word number_of over.1
+  ended (sum.0, denominator.0) denominator.1
+
+-- ---- sections
+
+-- `cert` and a bet of 1 to so many coins
+abbrev pub bet_line : ℕ → Reader ℕ
+bet_line coins = one_line (keyed (codes "cert") (number_within 1 coins))
+
+-- a line behind these class lines is one more, or the return
+unfoldable pub class_or_return : ℕ → List ClassLine → List Word → Option (ClassLine ⊎ (ℕ × ℕ))
+class_or_return n lines words =
+    if next_is (codes "return") words then option_map inr (return_of words) else option_map inl (next_class_of n lines words)
+
+abbrev pub class_lines : ℕ → Reader (List ClassLine × (ℕ × ℕ))
+class_lines n = rows (class_or_return n)
+
+-- `end` alone
+abbrev pub end_of : List Word → Option (Unit {0})
+end_of words = do
+  key ← key_word (codes "end") words
+  ended tt key.1
+
+abbrev pub end_line : Reader (Unit {0})
+end_line = one_line end_of
+
+-- the pay table, the bet, the class lines with the return, and the end
+abbrev pub CertificateParts : Type 0
+CertificateParts = PayTable × (ℕ × ((List ClassLine × (ℕ × ℕ)) × Unit {0}))
+
+abbrev pub certificate_from : CertificateParts → Certificate
+certificate_from p = record { table = p.0; coin = p.1.0; classes = p.1.1.0.0; sum = p.1.1.0.1.0; denominator = p.1.1.0.1.1 }
+
+abbrev pub certificate_parts_at : Reader CertificateParts
+certificate_parts_at = both table_at (λ table. both (bet_line table.coins) (λ coin. both (class_lines table.deck) (λ classes. end_line)))
+
+-- a certificate
+unfoldable pub certificate_at : Reader Certificate
+certificate_at = mapped certificate_from certificate_parts_at

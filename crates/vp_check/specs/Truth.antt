@@ -1,0 +1,67 @@
+-- True certificates, and what they say of all deals.
+use Rattle.std.specs.Prelude.{◌≡◌, ℕ, ◌+◌, ◌*◌, ◌<◌, ◌≤◌, true, List, length, map, sum_by, slice_index_or, None}
+use Rattle.std.specs.List.{All, Contains}
+use Rattle.std.specs.List.Sorted.{IsStrictlyIncreasing}
+use Rattle.vp_pay.specs.declared.table.PayTable.{PayTable}
+use Rattle.vp_draws.specs.Draws.{best, least_best, sum_of_best, value}
+use Rattle.vp_sets.specs.Index.{set_index}
+use Rattle.vp_sets.specs.Sets.{choose}
+use Rattle.vp_suit.specs.Classes.{IsDeal, is_representative, representatives, weight}
+use Rattle.vp_suit.specs.Turns.{turn, carried}
+use Rattle.vp_check.specs.Certificates.{Certificate}
+use Rattle.vp_check.specs.Rules.{first_break, denominator_of}
+use Rattle.vp_check.specs.declared.class_line.ClassLine.{ClassLine}
+
+-- no line breaks a rule, where `count` class lines from the place `from` on are walked
+abbrev pub IsTrueOver : ℕ → ℕ → Certificate → Type 0
+IsTrueOver from count c = first_break from count c ≡ None
+
+-- no line breaks a rule
+abbrev pub IsTrueCertificate : Certificate → Type 0
+IsTrueCertificate c = IsTrueOver 1 (length c.classes) c
+
+-- the class lines at `count` places from the place `from` on, the first class line having the place 1
+abbrev pub AllWalked : ℕ → ℕ → (ClassLine → Type 0) → List ClassLine → Type 0
+AllWalked from count P lines = (i : ℕ) (d : ClassLine) → i < length lines → from ≤ i + 1 → i + 1 < from + count → P (slice_index_or lines i d)
+
+-- the cards of the class lines
+abbrev pub hands : Certificate → List (List ℕ)
+hands c = map (λ line. line.hand) c.classes
+
+-- what a certificate without a broken rule is, where `count` class lines from the place `from` on are walked: least images that
+-- rise by index, with their weights, the best value and a best hold on each walked line; and a return for all deals
+pub record KeepsRules (from count : ℕ) (c : Certificate) : Type 0 where
+  pub least : All (λ line. is_representative line.hand ≡ true) c.classes
+  pub rising : IsStrictlyIncreasing (map set_index (hands c))
+  pub weights : All (λ line. line.weight ≡ weight line.hand) c.classes
+  pub values : AllWalked from count (λ line. line.value ≡ best c.table c.coin line.hand) c.classes
+  pub masks : AllWalked from count (λ line. value c.table c.coin line.hand line.mask ≡ best c.table c.coin line.hand) c.classes
+  pub cover : sum_by (λ line. line.weight) c.classes ≡ choose c.table.deck 5
+  pub sum : c.sum ≡ sum_by (λ line. line.weight * line.value) c.classes
+  pub denominator : c.denominator ≡ denominator_of c.table.deck c.coin
+
+-- what a class line says of a class: its weight, its least best hold, and the value of that
+unfoldable pub due_line : PayTable → ℕ → List ℕ → ClassLine
+due_line table coin hand = record { hand = hand; weight = weight hand; mask = least_best table coin hand; value = best table coin hand }
+
+-- the true certificate of a pay table and a bet whose masks are the least best ones
+unfoldable pub due_certificate : PayTable → ℕ → Certificate
+due_certificate table coin = record {
+  table = table;
+  coin = coin;
+  classes = map (due_line table coin) (representatives table.deck);
+  sum = sum_of_best table coin;
+  denominator = denominator_of table.deck coin;
+}
+
+-- a true certificate lists every class, its sum is the sum of the best values of all deals over the denominator of the deck and the bet
+pub record SumsAllDeals (c : Certificate) : Type 0 where
+  pub classes : hands c ≡ representatives c.table.deck
+  pub sum : c.sum ≡ sum_of_best c.table c.coin
+  pub denominator : c.denominator ≡ denominator_of c.table.deck c.coin
+
+-- each hold of a deal that a turn carries to the mask of its class is best
+abbrev pub HoldsAreBest : Certificate → Type 0
+HoldsAreBest c = (t mask : ℕ) (cards : List ℕ) (line : ClassLine) → t < 24 → mask < 32 → IsDeal c.table.deck cards → Contains c.classes line
+    → line.hand ≡ turn t cards → carried t cards mask ≡ line.mask
+    → value c.table c.coin cards mask ≡ best c.table c.coin cards

@@ -1,0 +1,27 @@
+//! Certificates of a pay table: what a true one says, how it is spelled and read, and an independent check.
+#![tactic(auto)]
+
+mod checker;
+mod class_line;
+mod class_lines;
+mod class_words;
+mod counted;
+mod finding;
+mod laws;
+mod numbered;
+mod passed;
+mod read_certificate;
+mod reading;
+#[cfg(test)]
+mod reading_tests;
+mod rules;
+mod spellings;
+#[cfg(test)]
+mod tests;
+mod walk;
+
+pub use checker::check;
+pub use class_line::ClassLine;
+pub use finding::{CertRule, Checked, Finding};
+pub use laws::{certificates_keep_rules, due_certificate_is_true, true_certificates};
+pub use spellings::{certificate_spellings_differ, certificates_are_spelled, lines_have_numbers};

@@ -1,0 +1,32 @@
+//! Laws of the spelling of certificates, each the contract of a function that does nothing.
+
+ghost use Rattle.std.specs.Prelude.{◌≡◌, ◌↔◌, ◌+◌, ℕ, List, ◌∷◌, ◌++◌, length, Ok, Err};
+ghost use Rattle.vp_text.specs.Lines.{feed_of};
+ghost use Rattle.vp_text.specs.Sections.{Text, IsWhole, RefusedLine};
+ghost use Rattle.vp_check.specs.Certificates.{Certificate, IsCertificate};
+ghost use Rattle.vp_check.specs.Checking.{Stands, certificate_of, line_number};
+ghost use Rattle.vp_check.specs.Spelling.{certificate_text, class_words, return_words};
+ghost use Rattle.vp_check.specs.declared.class_line.ClassLine.{ClassLine};
+
+/// Different certificates have different spellings, and no spelling begins another one.
+pub fn certificate_spellings_differ()
+    ensures { (a b : Certificate) (x y : Text) → IsCertificate a → IsCertificate b → certificate_text a ++ x ≡ certificate_text b ++ y → (a ≡ b) × (x ≡ y) }
+{}
+
+/// What a text says.
+pub fn certificates_are_spelled()
+    // A text says a certificate where its lines are the spelling of this certificate, and nothing else.
+    ensures says { (bytes : List ℕ) (c : Certificate) → certificate_of bytes ≡ Ok c ↔ IsCertificate c × IsWhole certificate_text (feed_of bytes) c }
+    // It is refused at the first line with which the lines so far begin no certificate, or at the one past the end.
+    ensures refused { (bytes : List ℕ) (line : ℕ) → certificate_of bytes ≡ Err line ↔ RefusedLine certificate_text IsCertificate (feed_of bytes) line }
+{}
+
+/// The number that a place has is that of the line that says what stands at this place.
+pub fn lines_have_numbers()
+    // The class lines stand at the places from 1 on.
+    ensures classes { (bytes : List ℕ) (c : Certificate) (front back : List ClassLine) (line : ClassLine) → certificate_of bytes ≡ Ok c → c.classes ≡ front ++ line ∷ back
+        → Stands (feed_of bytes) (line_number c (feed_of bytes) (length front + 1)) (class_words line) }
+    // The return stands behind the last class line.
+    ensures last { (bytes : List ℕ) (c : Certificate) → certificate_of bytes ≡ Ok c
+        → Stands (feed_of bytes) (line_number c (feed_of bytes) (length c.classes + 1)) (return_words c.sum c.denominator) }
+{}
