@@ -1,0 +1,3 @@
+pub mod Written
+pub mod SoFar
+pub mod Parts

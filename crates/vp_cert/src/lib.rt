@@ -1,0 +1,15 @@
+//! The certificate of a pay table: every class of deals with its best hold, and the sum over all deals.
+#![tactic(auto)]
+
+mod asked;
+mod certificate;
+mod classes;
+mod holds;
+mod lines;
+
+pub use asked::Asked;
+pub use certificate::certify;
+pub use holds::Holds;
+
+#[cfg(test)]
+mod tests;
