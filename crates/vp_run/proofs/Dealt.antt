@@ -1,7 +1,7 @@
 -- The hand of a deal is of the deck.
 use Rattle.std.proofs.Common.{◌≡◌, ℕ, Bool, true, false, ◌&&◌, nat_lt, List, [], ◌∷◌, refl, if◌then◌else◌}
 use Rattle.vp_card.specs.Cards.{in_deck, place, in_order}
-use Rattle.vp_pay.proofs.Pieces.{both_true}
+use Rattle.vp_text.proofs.Pieces.{both_true}
 
 and_both : (a b : Bool) → a ≡ true → b ≡ true → (a && b) ≡ true
 and_both a b h k = rw (h, k) refl

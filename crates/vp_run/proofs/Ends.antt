@@ -2,9 +2,9 @@
 use Rattle.std.proofs.Common.{◌≡◌, ℕ, ◌≤◌, List, [], length, refl, ap, ◌∙◌, subst, inl, inr, arith, length-append}
 use Rattle.std.specs.Prelude.{Option, Some, None, IfSome}
 use Rattle.std.proofs.KnownBytes.{Consumes-all}
-use Rattle.vp_io.specs.Streams.{Gave, GaveAll}
+use Rattle.vp_io.specs.Streams.{Gave, GaveAll, GaveUpTo}
 use Rattle.vp_run.specs.Answer.{Answer}
-use Rattle.vp_run.specs.Outcome.{Told, ReadWhole, Answered, IsServed, EachInputIsServed, WordsAreServed}
+use Rattle.vp_run.specs.Outcome.{Told, Outcome, ReadWhole, Served, Answered, IsServed, EachInputIsServed, WordsAreServed}
 use Rattle.vp_run.specs.declared.status.Status.{Status}
 use Rattle.vp_run.specs.declared.status.Status.TheVariants.{Done, Finding, Usage, Refused, ReadFault, WriteFault, NoMemory, TooLong}
 
@@ -30,6 +30,29 @@ read_whole due bytes given source left sink taken status told read answered =
       fits = λ _. inl (answered.is ∙ ap (λ (b : List ℕ). (due b).status) same);
       longer = λ long. absurd (omega (arith, ap length same, read.within));
     }
+
+-- a source that gave at most so many bytes gave at most more
+gave_fewer : (before after : Option (List ℕ)) (bytes : List ℕ) (n most : ℕ) → GaveAll before after bytes → length bytes ≤ n → n ≤ most → GaveUpTo before after most
+gave_fewer before after bytes n most gave within more = (bytes, gave.0, omega (arith, within, more))
+
+-- how an input ends that was read whole, and whose answer was served
+outcome_read : (due : List ℕ → Answer) (bytes : List ℕ) (source left sink taken : Told) (status : Status)
+    → ReadWhole source left bytes → Served (due bytes) sink taken status → Outcome due source left sink taken status
+outcome_read due bytes source left sink taken NoMemory read silent =
+    (record { gave = gave_fewer source.bytes left.bytes bytes 67108864 67108865 read.gave read.within (omega arith); no_fault = read.no_fault }, silent)
+outcome_read due bytes source left sink taken ReadFault read ended = absurd ended
+outcome_read due bytes source left sink taken TooLong read ended = absurd ended
+outcome_read due bytes source left sink taken WriteFault read cut = (bytes, read, cut)
+outcome_read due bytes source left sink taken Done read answered = (bytes, read, answered)
+outcome_read due bytes source left sink taken Finding read answered = (bytes, read, answered)
+outcome_read due bytes source left sink taken Usage read answered = (bytes, read, answered)
+outcome_read due bytes source left sink taken Refused read answered = (bytes, read, answered)
+
+pub served_outcome : (due : List ℕ → Answer) (bytes : List ℕ) (given left : Option (List ℕ)) (before now : ℕ) (sink taken : Told) (status : Status)
+    → GaveAll given left bytes → length bytes ≤ 67108864 → now ≡ before → Served (due bytes) sink taken status
+    → Outcome due (record { bytes = given; faults = before }) (record { bytes = left; faults = now }) sink taken status
+served_outcome due bytes given left before now sink taken status gave within calm served =
+    outcome_read due bytes (record { bytes = given; faults = before }) (record { bytes = left; faults = now }) sink taken status (record { gave = gave; within = within; no_fault = calm }) served
 
 pub each_input : EachInputIsServed
 each_input due bytes source left sink taken ReadFault (failed, silent) told calm quiet = absurd (calm failed.rose)

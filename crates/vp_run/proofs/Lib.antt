@@ -1,6 +1,8 @@
 pub mod Dealt
 pub mod Ends
 pub mod NoCommand
-pub mod Puts_laws
-pub mod Writing
+pub mod CommandWords
 pub mod DealInputs
+pub mod CertifyInputs
+pub mod CheckInputs
+pub mod EveryDeals

@@ -2,15 +2,20 @@
 use Rattle.std.specs.Option.{option_map_or}
 use Rattle.std.proofs.Common.{◌≡◌, ◌≤◌, ℕ, Bool, List, [], true, false, ◌≢◌, subst, sym, refl, Option, Some, None, Result, Ok, Err, ap, ◌∙◌}
 use Rattle.std.specs.Prelude.{is_some}
+use Rattle.vp_check.specs.Checking.{check_result}
+use Rattle.vp_check.specs.declared.finding.Checked.{Checked}
+use Rattle.vp_check.specs.declared.finding.Finding.{Finding as Fault}
+use Rattle.vp_check.specs.declared.finding.Finding.TheVariants.{Refused as RefusedAt, Bad}
 use Rattle.vp_pay.specs.declared.table.PayTable.{PayTable}
-use Rattle.vp_run.specs.Answer.{Answer, answer, answer_to, deal_answer, deal_input, is_command, needs_input, refusal, tables_answer, usage}
+use Rattle.vp_run.specs.Answer.{Answer, answer, answer_to, certify_answer, certify_input, check_answer, command_answer, deal_answer, deal_input, finding, is_command, needs_input, refusal, tables_answer, usage}
 use Rattle.vp_run.specs.Commands.{command_of, reads}
 use Rattle.vp_run.specs.declared.command.Command.{Command}
-use Rattle.vp_run.specs.declared.command.Command.TheVariants.{Deal, Tables}
-use Rattle.vp_run.specs.Memory.{deal_words, command_words, region_words}
-use Rattle.vp_run.specs.Outcome.{Told, Served, Unread}
+use Rattle.vp_run.specs.declared.command.Command.TheVariants.{Certify, Check, Deal, Tables}
+use Rattle.vp_io.specs.Puts.{Puts}
+use Rattle.vp_run.specs.Memory.{certify_words, deal_words, command_words, region_words}
+use Rattle.vp_run.specs.Outcome.{Told, Answered, Served, Unread}
 use Rattle.vp_run.specs.declared.status.Status.{Status}
-use Rattle.vp_run.specs.declared.status.Status.TheVariants.{Done, Usage}
+use Rattle.vp_run.specs.declared.status.Status.TheVariants.{Done, Finding, Usage, Refused, ReadFault, WriteFault, NoMemory, TooLong}
 
 no_answer : (command : Option Command) (bytes : List ℕ) → is_some command ≡ false → answer_to command bytes ≡ usage
 no_answer None bytes none = refl
@@ -26,6 +31,17 @@ unfolding refusal
 deal_usage coin (Ok read) same = absurd (cc)
 deal_usage coin (Err line) same = absurd (cc)
 
+certify_usage : (coin : ℕ) (input : Result (PayTable × Unit {0}) ℕ) → (certify_answer coin input).status ≢ Usage
+unfolding refusal
+certify_usage coin (Ok read) same = absurd (cc)
+certify_usage coin (Err line) same = absurd (cc)
+
+check_usage : (verdict : Result Checked Fault) → (check_answer verdict).status ≢ Usage
+unfolding refusal finding
+check_usage (Ok checked) same = absurd (cc)
+check_usage (Err (RefusedAt line)) same = absurd (cc)
+check_usage (Err (Bad line rule said due)) same = absurd (cc)
+
 tables_usage : tables_answer.status ≢ Usage
 unfolding tables_answer
 tables_usage same = absurd (cc)
@@ -33,6 +49,8 @@ tables_usage same = absurd (cc)
 command_usage : (command : Option Command) (bytes : List ℕ) → is_some command ≡ true → (answer_to command bytes).status ≢ Usage
 command_usage None bytes some = absurd (cc)
 command_usage (Some (Deal coin)) bytes some = deal_usage coin (deal_input coin bytes)
+command_usage (Some (Certify coin)) bytes some = certify_usage coin (certify_input coin bytes)
+command_usage (Some (Check from count)) bytes some = check_usage (check_result bytes from count)
 command_usage (Some Tables) bytes some = tables_usage
 
 -- no command has that status
@@ -67,10 +85,61 @@ pub deal_refused : (words : List (List ℕ)) (coin : ℕ) (bytes : List ℕ) (li
 deal_refused words coin bytes line is says before after status ended =
     subst (λ (due : Answer). Served due before after status) (refused_as words coin bytes line is says) ended
 
+-- the answer of `certify` to what its input says
+pub certify_as : (words : List (List ℕ)) (coin : ℕ) (bytes : List ℕ) (input : Result (PayTable × Unit {0}) ℕ) → command_of words ≡ Some (Certify coin) → certify_input coin bytes ≡ input → certify_answer coin input ≡ answer words bytes
+certify_as words coin bytes input is says = ap (certify_answer coin) (sym says) ∙ answer_as words (Some (Certify coin)) bytes is
+
+pub certify_done : (words : List (List ℕ)) (coin : ℕ) (bytes : List ℕ) (read : PayTable × Unit {0}) → command_of words ≡ Some (Certify coin) → certify_input coin bytes ≡ Ok read → (answer words bytes).status ≡ Done
+certify_done words coin bytes read is says = ap (λ (a : Answer). a.status) (sym (certify_as words coin bytes (Ok read) is says))
+
+-- what writes the line of a refused input writes the answer of `certify`
+pub certify_refused : (words : List (List ℕ)) (coin : ℕ) (bytes : List ℕ) (line : ℕ) → command_of words ≡ Some (Certify coin) → certify_input coin bytes ≡ Err line
+    → (before after : Told) (status : Status) → Served (refusal line) before after status → Served (answer words bytes) before after status
+certify_refused words coin bytes line is says before after status ended =
+    subst (λ (due : Answer). Served due before after status) (certify_as words coin bytes (Err line) is says) ended
+
+-- what writes the answer of a command writes the answer to its words
+pub served_as : (words : List (List ℕ)) (command : Command) (bytes : List ℕ) (due : Answer) → command_of words ≡ Some command → due ≡ command_answer command bytes
+    → (before after : Told) (status : Status) → Served due before after status → Served (answer words bytes) before after status
+served_as words command bytes due is same before after status ended =
+    subst (λ (a : Answer). Served a before after status) (same ∙ answer_as words (Some command) bytes is) ended
+
+-- what needs no memory is served too
+pub unread_served : (due : Answer) (before after : Told) (status : Status) → Unread due before after status → Served due before after status
+unread_served due before after Done ended = ended
+unread_served due before after Finding ended = ended
+unread_served due before after Usage ended = ended
+unread_served due before after Refused ended = ended
+unread_served due before after ReadFault ended = absurd ended
+unread_served due before after WriteFault ended = ended
+unread_served due before after NoMemory ended = absurd ended
+unread_served due before after TooLong ended = absurd ended
+
+-- a call that put the text of an answer
+pub answered_ok : {T E : Type 0} (old new : Option (List ℕ)) (before now : ℕ) (done : T) (result : Result T E) (due : Answer) → result ≡ Ok done → Puts old new before now result due.text
+    → Answered due (record { bytes = old; faults = before }) (record { bytes = new; faults = now }) due.status
+answered_ok old new before now done result due is p =
+    let put = subst (λ r. Puts old new before now r due.text) is p in
+    record { is = refl; text = put.all; no_fault = put.cause.kept }
+
+-- the text and the status of a verdict are an answer
+pub verdict_served : (verdict : Result Checked Fault) (before after : Told) (status : Status) → status ≡ (check_answer verdict).status
+    → Answered (check_answer verdict) before after (check_answer verdict).status → Served (check_answer verdict) before after status
+unfolding refusal finding
+verdict_served (Ok checked) before after status is answered = subst (λ (s : Status). Served (check_answer (Ok checked)) before after s) (sym is) answered
+verdict_served (Err (RefusedAt line)) before after status is answered = subst (λ (s : Status). Served (check_answer (Err (RefusedAt line))) before after s) (sym is) answered
+verdict_served (Err (Bad line rule said due)) before after status is answered =
+    subst (λ (s : Status). Served (check_answer (Err (Bad line rule said due))) before after s) (sym is) answered
+
 -- what the answer of `deal` needs, it has
 pub region_deal : (words : List (List ℕ)) (coin : ℕ) (bytes : List ℕ) (n : ℕ) → command_of words ≡ Some (Deal coin) → region_words words bytes ≤ n → deal_words (deal_input coin bytes) ≤ n
 unfolding region_words
 region_deal words coin bytes n is room = subst (λ (c : Option Command). command_words c bytes ≤ n) is room
+
+-- what the answer of `certify` needs, it has
+pub region_certify : (words : List (List ℕ)) (coin : ℕ) (bytes : List ℕ) (n : ℕ) → command_of words ≡ Some (Certify coin) → region_words words bytes ≤ n → certify_words (certify_input coin bytes) ≤ n
+unfolding region_words
+region_certify words coin bytes n is room = subst (λ (c : Option Command). command_words c bytes ≤ n) is room
 
 -- which words need an input is read off the command
 pub needs_as : (words : List (List ℕ)) (command : Option Command) (b : Bool) → command_of words ≡ command → needs_input words ≡ b → option_map_or reads command false ≡ b
@@ -84,6 +153,13 @@ none_needs words is needs = let never : false ≡ true = needs_as words None tru
 pub tables_need : (words : List (List ℕ)) → command_of words ≡ Some Tables → needs_input words ≡ true → ⊥
 tables_need words is needs = let never : false ≡ true = needs_as words (Some Tables) true is needs in absurd (cc)
 
--- `deal` needs one
-pub deal_needs : (words : List (List ℕ)) (coin : ℕ) → command_of words ≡ Some (Deal coin) → needs_input words ≡ false → ⊥
-deal_needs words coin is none = let never : true ≡ false = needs_as words (Some (Deal coin)) false is none in absurd (cc)
+-- a command that needs no input is `tables`
+pub unread_tables : (command : Command) → reads command ≡ false → command ≡ Tables
+unread_tables Tables none = refl
+unread_tables (Deal coin) none = absurd (cc)
+unread_tables (Certify coin) none = absurd (cc)
+unread_tables (Check from count) none = absurd (cc)
+
+-- the other commands need one
+pub some_needs : (words : List (List ℕ)) (command : Command) → command_of words ≡ Some command → reads command ≡ true → needs_input words ≡ false → ⊥
+some_needs words command is reading none = let never : reads command ≡ false = needs_as words (Some command) false is none in absurd (cc)

@@ -1,5 +1,5 @@
 -- What `deal` says of a hand: the text of its four lines.
-use Rattle.std.specs.Prelude.{ℕ, List, [], ◌∷◌, ◌++◌, map, codes, flat_map}
+use Rattle.std.specs.Prelude.{ℕ, List, [], ◌∷◌, ◌++◌, map, codes}
 use Rattle.std.specs.Fmt.{decimal}
 use Rattle.vp_card.specs.Cards.{held}
 use Rattle.vp_card.specs.Texts.{card_text}
@@ -18,7 +18,3 @@ deal_lines hand f =
     (codes "best" ∷ decimal f.mask ∷ map card_text (held f.mask hand) ++ fraction f.value f.denominator) ∷
     (codes "pat" ∷ fraction f.pat f.denominator) ∷
     (codes "ties" ∷ decimal f.ties ∷ []) ∷ []
-
--- words behind the words of a line, each with a space in front
-unfoldable pub behind : List Word → List ℕ
-behind words = flat_map (λ word. 32 ∷ word) words

@@ -1,8 +1,11 @@
 pub mod StatusCode
 pub mod Commands
 pub mod DealText
-pub mod Puts
+pub mod CheckText
 pub mod Answer
 pub mod DealInput
+pub mod CertifyInput
+pub mod CheckInput
 pub mod Memory
 pub mod Outcome
+pub mod EveryDeal

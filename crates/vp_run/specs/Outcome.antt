@@ -2,7 +2,7 @@
 use Rattle.std.specs.Prelude.{◌≡◌, ◌⊎◌, ◌<◌, ◌≤◌, ℕ, List, length, Option, Some}
 use Rattle.std.specs.Io.KnownBytes.{Appends, Keeps}
 use Rattle.vp_io.specs.Causes.{Rose}
-use Rattle.vp_io.specs.Streams.{Gave, GaveAll, TookPart}
+use Rattle.vp_io.specs.Streams.{Gave, GaveAll, GaveUpTo, TookPart}
 use Rattle.vp_run.specs.Answer.{Answer}
 use Rattle.vp_run.specs.declared.status.Status.{Status}
 use Rattle.vp_run.specs.declared.status.Status.TheVariants.{ReadFault, WriteFault, NoMemory, TooLong}
@@ -43,14 +43,20 @@ pub record Silent (before after : Told) : Type 0 where
   pub same : Keeps before.bytes after.bytes
   pub no_fault : after.faults ≡ before.faults
 
--- a read failed
+-- a read failed, and the source gave at most one byte more than an input may have
 pub record ReadFailed (before after : Told) : Type 0 where
+  pub gave : GaveUpTo before.bytes after.bytes 67108865
   pub rose : Rose before.faults after.faults
   pub later : before.faults ≤ after.faults
 
 -- the source gave one byte more than an input may have, without a fault
 pub record GaveTooMuch (before after : Told) : Type 0 where
   pub gave : Gave before.bytes after.bytes 67108865
+  pub no_fault : after.faults ≡ before.faults
+
+-- there was no memory for the input or its answer: no read failed, and the source gave at most one byte more than an input may have
+pub record Unanswered (before after : Told) : Type 0 where
+  pub gave : GaveUpTo before.bytes after.bytes 67108865
   pub no_fault : after.faults ≡ before.faults
 
 -- how the answer to words that need no input ends
@@ -73,7 +79,7 @@ Served due before after status = Answered due before after status
 abbrev pub Outcome : (List ℕ → Answer) → Told → Told → Told → Told → Status → Type 0
 Outcome due source left sink taken ReadFault = ReadFailed source left × Silent sink taken
 Outcome due source left sink taken TooLong = GaveTooMuch source left × Silent sink taken
-Outcome due source left sink taken NoMemory = (left.faults ≡ source.faults) × Silent sink taken
+Outcome due source left sink taken NoMemory = Unanswered source left × Silent sink taken
 Outcome due source left sink taken WriteFault = (bytes : List ℕ) × ReadWhole source left bytes × CutOff (due bytes) sink taken
 Outcome due source left sink taken status = (bytes : List ℕ) × ReadWhole source left bytes × Answered (due bytes) sink taken status
 

@@ -1,17 +1,15 @@
 //! The four lines of `deal`.
 
-ghost use Rattle.std.specs.Prelude.{◌≡◌, ◌+◌, ◌*◌, ◌<◌, ◌≤◌, [], ◌∷◌, ◌++◌, length, map, codes, decimal, OnOk, OnErr};
-ghost use Rattle.std.specs.Io.KnownBytes.{Appends};
-ghost use Rattle.vp_io.specs.Causes.{HasCause};
-ghost use Rattle.vp_io.specs.Streams.{TookPart};
+ghost use Rattle.std.specs.Prelude.{◌≡◌, ◌<◌, ◌≤◌, ◌+◌, [], ◌∷◌, ◌++◌, length, map, codes, decimal};
+ghost use Rattle.vp_card.specs.Cards.{held};
 ghost use Rattle.vp_card.specs.Texts.{card_text};
-ghost use Rattle.vp_text.specs.Written.{line_of, written};
-ghost use Rattle.vp_run.specs.DealText.{fraction, behind, deal_lines};
-ghost use Rattle.vp_card.specs.Cards.{IsHand, held};
-ghost use Rattle.vp_run.specs.Puts.{Puts};
+ghost use Rattle.vp_io.specs.Puts.{Puts};
+ghost use Rattle.vp_run.specs.DealText.{fraction, deal_lines};
+ghost use Rattle.vp_text.specs.Written.{with_words, line_of, written};
 
-use vp_card::{Card, Hand};
-use vp_io::{Sink, WriteFault, put};
+use vp_card::Hand;
+use vp_io::{Sink, WriteFault};
+use vp_pay::{add_cards, add_hand, put_line};
 use vp_text::Out;
 
 /// The figures of a deal. Values stand over the common denominator of the deck.
@@ -29,131 +27,94 @@ pub struct DealFigures {
     pub denominator: u64,
 }
 
-/// A line that begins with the word.
-fn begun(word: &[u8]) -> Out
-    requires { length word.now < 100 }
-    ensures { result ≡ word.now }
+/// Appends a fraction.
+#[tactic(auto, using(vp_text::proofs::Room::length_with_word, vp_text::proofs::Room::length_decimal))]
+pub(crate) fn add_fraction(out: &mut Out, over: u64, under: u64)
+    requires { length out.old < 400 }
+    ensures words { out.new ≡ with_words out.old (fraction over under) }
+{
+    out.number(u128::from(over));
+    out.word(b"/");
+    out.number(u128::from(under));
+}
+
+/// The line of the cards.
+#[tactic(auto, using(vp_text::proofs::Room::length_with_word))]
+fn cards_line(hand: &Hand) -> Out
+    ensures { result ≡ with_words [] (codes "deal" ∷ map card_text hand.now) }
 {
     let mut out = Out::new();
-    out.word(word);
+    out.word(b"deal");
+    add_hand(&mut out, hand);
     out
 }
 
-/// Appends a word to a line that has begun.
-#[tactic(auto, using(crate::proofs::Writing::with_word_begun))]
-fn add_word(out: &mut Out, word: &[u8])
-    requires begun { 0 < length out.old }
-    requires room { length out.old + length word.now < 511 }
-    ensures { out.new ≡ out.old ++ 32 ∷ word.now }
-{
-    out.word(word);
-}
-
-/// Appends a number to a line that has begun.
-#[tactic(auto, using(crate::proofs::Writing::with_word_begun, crate::proofs::Writing::decimal_digits, crate::proofs::Writing::number_fits))]
-fn add_number(out: &mut Out, number: u64)
-    requires begun { 0 < length out.old }
-    requires room { length out.old < 490 }
-    ensures value { out.new ≡ out.old ++ 32 ∷ decimal number }
-    ensures digits { length (decimal number) ≤ 20 }
-{
-    out.number(u128::from(number));
-}
-
-/// Appends the texts of the cards.
-fn add_cards(out: &mut Out, cards: &[Card])
-    requires begun { 0 < length out.old }
-    requires room { length out.old + 3 * length cards.now < 500 }
-    ensures cards { out.new ≡ out.old ++ behind (map card_text cards.now) }
-    ensures bytes { length out.new ≡ length out.old + 3 * length cards.now }
-{
-    for card in cards {
-        add_word(out, &card.text());
-    }
-}
-
-/// Appends a fraction.
-#[tactic(auto, unfolding(crate::specs::DealText::behind))]
-fn add_fraction(out: &mut Out, over: u64, under: u64)
-    requires begun { 0 < length out.old }
-    requires room { length out.old < 400 }
-    ensures { out.new ≡ out.old ++ behind (fraction over under) }
-{
-    add_number(out, over);
-    add_word(out, b"/");
-    add_number(out, under);
-}
-
-/// Puts the line, which is then empty again.
-fn put_line<K: Sink>(out: &mut Out, sink: &mut K) -> Result<(), WriteFault>
-    ensures { Puts (K.taken sink.old) (K.taken sink.new) (K.faults sink.old) (K.faults sink.new) result (out.old ++ 10 ∷ []) }
-{
-    put(sink, out.line())
-}
-
 /// Puts the line of the cards.
-#[tactic(auto, using(crate::proofs::Writing::line_of_behind))]
 fn put_cards<K: Sink>(hand: &Hand, sink: &mut K) -> Result<(), WriteFault>
-    requires { IsHand hand.now }
     ensures { Puts (K.taken sink.old) (K.taken sink.new) (K.faults sink.old) (K.faults sink.new) result (line_of (codes "deal" ∷ map card_text hand.now)) }
 {
-    let mut out = begun(b"deal");
-    add_cards(&mut out, &hand.held(31));
-    put_line(&mut out, sink)
+    put_line(&mut cards_line(hand), sink)
+}
+
+/// The line of the best hold.
+#[tactic(auto, using(vp_text::proofs::Room::length_with_word, vp_text::proofs::Room::length_decimal, vp_text::proofs::WithWords::with_words_append))]
+fn best_line(hand: &Hand, figures: DealFigures) -> Out
+    ensures { result ≡ with_words [] (codes "best" ∷ decimal figures.mask ∷ map card_text (held figures.mask hand.now) ++ fraction figures.value figures.denominator) }
+{
+    let mut out = Out::new();
+    out.word(b"best");
+    out.number(u128::from(figures.mask));
+    add_cards(&mut out, &hand.held(figures.mask));
+    add_fraction(&mut out, figures.value, figures.denominator);
+    out
 }
 
 /// Puts the line of the best hold.
-#[tactic(auto, using(crate::proofs::Writing::line_of_behind))]
 fn put_best<K: Sink>(hand: &Hand, figures: DealFigures, sink: &mut K) -> Result<(), WriteFault>
     ensures { Puts (K.taken sink.old) (K.taken sink.new) (K.faults sink.old) (K.faults sink.new) result
         (line_of (codes "best" ∷ decimal figures.mask ∷ map card_text (held figures.mask hand.now) ++ fraction figures.value figures.denominator)) }
 {
-    let mut out = begun(b"best");
-    add_number(&mut out, u64::from(figures.mask));
-    add_cards(&mut out, &hand.held(figures.mask));
-    add_fraction(&mut out, figures.value, figures.denominator);
-    put_line(&mut out, sink)
+    put_line(&mut best_line(hand, figures), sink)
 }
 
 /// Puts the line of holding all five.
-#[tactic(auto, using(crate::proofs::Writing::line_of_behind))]
+#[tactic(auto, using(vp_pay::proofs::Puts::Puts_line, vp_text::proofs::Room::length_with_word))]
 fn put_pat<K: Sink>(figures: DealFigures, sink: &mut K) -> Result<(), WriteFault>
     ensures { Puts (K.taken sink.old) (K.taken sink.new) (K.faults sink.old) (K.faults sink.new) result
         (line_of (codes "pat" ∷ fraction figures.pat figures.denominator)) }
 {
-    let mut out = begun(b"pat");
+    let mut out = Out::new();
+    out.word(b"pat");
     add_fraction(&mut out, figures.pat, figures.denominator);
     put_line(&mut out, sink)
 }
 
-/// Puts the line of the ties.
-#[tactic(auto, using(crate::proofs::Writing::line_of_behind))]
-fn put_ties<K: Sink>(figures: DealFigures, sink: &mut K) -> Result<(), WriteFault>
-    ensures { Puts (K.taken sink.old) (K.taken sink.new) (K.faults sink.old) (K.faults sink.new) result
-        (line_of (codes "ties" ∷ decimal figures.ties ∷ [])) }
+/// Puts a line of a word and a number.
+#[tactic(auto, using(vp_pay::proofs::Puts::Puts_line, vp_text::proofs::Room::length_with_word, vp_text::proofs::Room::length_decimal))]
+fn put_number<K: Sink>(key: &[u8], number: u32, sink: &mut K) -> Result<(), WriteFault>
+    requires some { 0 < length key.now }
+    requires room { length key.now < 100 }
+    ensures { Puts (K.taken sink.old) (K.taken sink.new) (K.faults sink.old) (K.faults sink.new) result (line_of (key.now ∷ decimal number ∷ [])) }
 {
-    let mut out = begun(b"ties");
-    add_number(&mut out, u64::from(figures.ties));
+    let mut out = Out::new();
+    out.word(key);
+    out.number(u128::from(number));
     put_line(&mut out, sink)
 }
 
 /// Puts the four lines of `deal`.
 pub fn put_deal<K: Sink>(hand: &Hand, figures: DealFigures, sink: &mut K) -> Result<(), WriteFault>
-    requires { IsHand hand.now }
     ensures { Puts (K.taken sink.old) (K.taken sink.new) (K.faults sink.old) (K.faults sink.new) result (written (deal_lines hand.now figures)) }
 {
     put_cards(hand, sink)?;
     put_best(hand, figures, sink)?;
     put_pat(figures, sink)?;
-    put_ties(figures, sink)
+    put_number(b"ties", figures.ties as u32, sink)
 }
 
 /// Puts the line of an input that is refused at a line.
-#[tactic(auto, using(crate::proofs::Writing::line_of_behind))]
 pub fn put_refusal<K: Sink>(line: u32, sink: &mut K) -> Result<(), WriteFault>
     ensures { Puts (K.taken sink.old) (K.taken sink.new) (K.faults sink.old) (K.faults sink.new) result (line_of (codes "refused" ∷ decimal line ∷ [])) }
 {
-    let mut out = begun(b"refused");
-    add_number(&mut out, u64::from(line));
-    put_line(&mut out, sink)
+    put_number(b"refused", line, sink)
 }

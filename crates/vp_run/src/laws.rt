@@ -1,5 +1,8 @@
 // Laws of the answers.
 ghost use Rattle.vp_run.specs.Answer.{UsageIsForNoCommand};
+ghost use Rattle.vp_run.specs.CertifyInput.{CertifyInputsAreSpelled, CertifyInputsAreRefused};
+ghost use Rattle.vp_run.specs.CheckInput.{CertificatesAreJudged, CheckInputsAreEither, CheckInputsAreRefused};
+ghost use Rattle.vp_run.specs.EveryDeal.{CertificatesTellEveryDeal, ChecksTellEveryDeal};
 ghost use Rattle.vp_run.specs.DealInput.{DealInputsAreSpelled, DealInputsAreRefused};
 ghost use Rattle.vp_run.specs.Outcome.{EachInputIsServed, WordsAreServed};
 
@@ -21,4 +24,30 @@ pub fn usage_is_for_no_command()
 pub fn deal_inputs_are_read()
     ensures spelled { DealInputsAreSpelled }
     ensures refused { DealInputsAreRefused }
+{}
+
+/// What `certify` takes for its input is what the lines of the input spell: a valid pay table that has the bet, and
+/// nothing else. Every other input is refused, exactly at its refused line.
+pub fn certify_inputs_are_read()
+    ensures spelled { CertifyInputsAreSpelled }
+    ensures refused { CertifyInputsAreRefused }
+{}
+
+/// What `check` takes for its input is what the lines of the input spell: a certificate in the grammar, and nothing else.
+/// It is answered by its first broken rule, where there is one. Every other input is refused, exactly at its refused line.
+pub fn check_inputs_are_read()
+    ensures judged { CertificatesAreJudged }
+    ensures refused { CheckInputsAreRefused }
+    ensures either { CheckInputsAreEither }
+{}
+
+/// The answer of `certify` to each pay table that it takes is a certificate that tells every deal: each deal of the deck
+/// has a printed hold, one that some turn of the suits carries to the mask of the deal's class; each printed hold is
+/// worth what its line says, and no other of the 32 holds is worth more. The printed sum is the sum of the greatest
+/// values over all deals, over the number of deals, the common denominator of the deck and the bet: the return is exactly
+/// the mean payment of best play divided by the bet. So does every certificate that `check` finds no fault with, all
+/// class lines being walked.
+pub fn certificates_tell_every_deal()
+    ensures certify { CertificatesTellEveryDeal }
+    ensures check { ChecksTellEveryDeal }
 {}

@@ -1,6 +1,9 @@
 //! The whole of the program as one call over a source and a sink.
 #![tactic(auto)]
 
+mod certificate;
+mod certify_input;
+mod check_text;
 mod command;
 mod deal_input;
 mod deal_text;
@@ -10,10 +13,17 @@ mod status;
 mod tables_text;
 mod top;
 
-pub use laws::{deal_inputs_are_read, served_without_fault, usage_is_for_no_command};
+pub use laws::{
+    certificates_tell_every_deal, certify_inputs_are_read, check_inputs_are_read,
+    deal_inputs_are_read, served_without_fault, usage_is_for_no_command,
+};
 pub use serve::{region_words, served};
 pub use status::Status;
 pub use top::vpoker;
 
+#[cfg(test)]
+mod certify_tests;
+#[cfg(test)]
+mod check_tests;
 #[cfg(test)]
 mod tests;

@@ -6,9 +6,11 @@ ghost use Rattle.vp_run.specs.Answer.{answer, deal_answer, deal_figures, deal_in
 ghost use Rattle.vp_run.specs.DealInput.{IsDealInput};
 ghost use Rattle.vp_run.specs.DealText.{deal_lines};
 ghost use Rattle.vp_run.specs.Memory.{deal_words, region_words};
-ghost use Rattle.vp_run.specs.Puts.{Puts};
+ghost use Rattle.vp_io.specs.Puts.{Puts};
 ghost use Rattle.vp_text.specs.Written.{written};
 
+use crate::certificate::{certify_words, put_certify_answer};
+use crate::check_text::put_verdict;
 use crate::command::{Command, command_of};
 use crate::deal_input::read_deal_input;
 use crate::deal_text::{DealFigures, put_deal, put_refusal};
@@ -16,6 +18,7 @@ use crate::tables_text::put_tables;
 use std::marker::Brand;
 use std::sync::ledger::{Blank, Ledger};
 use vp_card::Hand;
+use vp_check::check;
 use vp_count::table_words;
 use vp_hold::Game;
 use vp_io::{Sink, WriteFault, put};
@@ -34,8 +37,9 @@ pub fn region_words(words: &[&str], bytes: &[u8]) -> usize
     ensures { result ≡ region_words (map (λ w. w.now) words.now) bytes.now }
 {
     match command_of(words) {
-        None | Some(Command::Tables) => 0,
+        None | Some(Command::Tables | Command::Check { .. }) => 0,
         Some(Command::Deal(coin)) => deal_words(coin, bytes),
+        Some(Command::Certify(coin)) => certify_words(coin, bytes),
     }
 }
 
@@ -66,6 +70,8 @@ pub fn served<K: Sink>(
         None => put(sink, USAGE),
         Some(Command::Tables) => put_tables(sink),
         Some(Command::Deal(coin)) => put_deal_answer(coin, bytes, region, sink),
+        Some(Command::Certify(coin)) => put_certify_answer(coin, bytes, region, sink),
+        Some(Command::Check { from, count }) => put_verdict(check(bytes, from, count), sink),
     }
 }
 

@@ -2,7 +2,7 @@
 
 ghost use Rattle.std.specs.Prelude.{◌≡◌, ◌++◌};
 ghost use Rattle.vp_run.specs.Answer.{built_in_text};
-ghost use Rattle.vp_run.specs.Puts.{Puts};
+ghost use Rattle.vp_io.specs.Puts.{Puts};
 
 use vp_io::{Sink, WriteFault, put};
 use vp_pay::PayTable;

@@ -7,7 +7,7 @@ use vp_io::{CountSink, MemSink, MemSource, PureSource};
 use vp_pay::PayTable;
 
 /// The one-column table of 9/6 Jacks or Better.
-const JACKS: &[u8] = b"table jacks-9-6
+pub(crate) const JACKS: &[u8] = b"table jacks-9-6
 deck 52
 wild none
 coins 1
@@ -31,7 +31,7 @@ pat 46018170 / 7669695
 ties 1
 ";
 
-fn joined(alloc: Global, front: &[u8], back: &[u8]) -> Result<Vec<u8>, AllocError> {
+pub(crate) fn joined(alloc: Global, front: &[u8], back: &[u8]) -> Result<Vec<u8>, AllocError> {
     let mut text = Vec::new(alloc);
     text.extend_from_slice(front)?;
     text.extend_from_slice(back)?;
@@ -40,13 +40,25 @@ fn joined(alloc: Global, front: &[u8], back: &[u8]) -> Result<Vec<u8>, AllocErro
 
 #[test]
 fn words_that_are_no_command_read_nothing(rt: HostRuntime) {
-    let cases: [&[&str]; 6] = [
+    let cases: [&[&str]; 18] = [
         &[],
         &["certify", "0"],
+        &["certify", "6"],
+        &["certify", "01"],
+        &["certify"],
+        &["certify", "1", "1"],
         &["deal"],
         &["deal", "01"],
         &["deal", "6"],
         &["deal", "1", "1"],
+        &["check", "1"],
+        &["check", "0", "1"],
+        &["check", "01", "1"],
+        &["check", "1", "00"],
+        &["check", "1", "200001"],
+        &["check", "200001", "1"],
+        &["check", "1", "1", "1"],
+        &["tables", "1"],
     ];
     for words in cases {
         let mut source = MemSource::new(b"coins 1\n", 100, &[1]);
@@ -102,7 +114,7 @@ ties 2
 }
 
 /// A table of 33 pay lines.
-const LONG: &[u8] = b"table long
+pub(crate) const LONG: &[u8] = b"table long
 deck 52
 wild none
 coins 1
@@ -290,7 +302,7 @@ fn the_codes_are_zero_to_seven(rt: HostRuntime) {
 }
 
 /// The input of `deal` on a built-in table.
-fn built_in_deal(alloc: Global, table: u8, deal: &[u8]) -> Result<Vec<u8>, AllocError> {
+pub(crate) fn built_in_deal(alloc: Global, table: u8, deal: &[u8]) -> Result<Vec<u8>, AllocError> {
     let mut room = [0; 2048];
     let mut sink = MemSink::new(&mut room, 2048, &[]);
     if let Some(table) = PayTable::built_in(table) {
@@ -329,7 +341,7 @@ fn deals_with_wild_cards(rt: HostRuntime) -> Result<(), Fail> {
 }
 
 /// 9/6 Jacks or Better as an operator writes it.
-const OPERATORS_JACKS: &[u8] = b"# 9/6 Jacks or Better\r
+pub(crate) const OPERATORS_JACKS: &[u8] = b"# 9/6 Jacks or Better\r
 table\tjacks-9-6\r
 deck\t52\r
 wild\tnone\r
@@ -370,7 +382,7 @@ deal 2c 2d 2h 2s Ac
 ";
 
 /// A table that pays nothing.
-const ZERO: &[u8] = b"table zero
+pub(crate) const ZERO: &[u8] = b"table zero
 deck 52
 wild none
 coins 1

@@ -1,17 +1,20 @@
 // All that the program does, from its words and its input to its text and its status.
 ghost use Rattle.std.specs.Prelude.{◌≡◌, ◌≤◌, [], length, map, true, false, Some};
-ghost use Rattle.vp_run.specs.Answer.{answer, needs_input, refusal, tables_answer, usage};
-ghost use Rattle.vp_run.specs.declared.command.Command.TheVariants.{Deal};
+ghost use Rattle.vp_run.specs.Answer.{answer, check_answer, needs_input, refusal, tables_answer, usage};
+ghost use Rattle.vp_run.specs.declared.command.Command.TheVariants.{Certify, Deal};
 ghost use Rattle.vp_run.specs.Commands.{command_of};
 ghost use Rattle.vp_run.specs.Outcome.{Outcome, Served, Unread, told};
 
 use crate::Status;
+use crate::certify_input::read_certify_input;
+use crate::check_text::{check_status, put_verdict};
 use crate::command::{Command, command_of};
 use crate::deal_input::read_deal_input;
 use crate::deal_text::put_refusal;
 use crate::serve::{USAGE, region_words, served};
 use crate::tables_text::put_tables;
 use std::alloc::Global;
+use vp_check::{Checked, Finding, check};
 use vp_io::{ReadStop, Sink, Source, WriteFault, put, read_all};
 use vp_region::Region;
 use vp_text::Refused;
@@ -37,8 +40,13 @@ pub fn vpoker<S: Source, K: Sink>(
 {
     match command_of(words) {
         None => write_usage(sink),
-        Some(Command::Tables) => write_tables(sink),
-        Some(Command::Deal(coin)) => deal(alloc, words, coin, source, sink),
+        Some(command) => {
+            if command.reads() {
+                read_and_answer(alloc, words, command, source, sink)
+            } else {
+                write_tables(sink)
+            }
+        }
     }
 }
 
@@ -64,15 +72,16 @@ fn write_tables<K: Sink>(sink: &mut K) -> Status
     }
 }
 
-/// Reads the input of `deal` and writes its answer.
-fn deal<S: Source, K: Sink>(
+/// Reads the input of a command and writes its answer.
+#[tactic(auto, using(crate::proofs::Ends::served_outcome))]
+fn read_and_answer<S: Source, K: Sink>(
     alloc: Global,
     words: &[&str],
-    coin: u8,
+    command: Command,
     source: &mut S,
     sink: &mut K,
 ) -> Status
-    requires command { command_of (map (λ w. w.now) words.now) ≡ Some (Deal coin) }
+    requires command { command_of (map (λ w. w.now) words.now) ≡ Some command }
     ensures { Outcome (answer (map (λ w. w.now) words.now))
         (told S.left S.faults source.old)
         (told S.left S.faults source.new)
@@ -80,15 +89,37 @@ fn deal<S: Source, K: Sink>(
         (told K.taken K.faults sink.new) result }
 {
     match read_all(alloc, source) {
-        Ok(bytes) => write_answer(alloc, words, coin, &bytes, sink),
+        Ok(bytes) => write_answer(alloc, words, command, &bytes, sink),
         Err(ReadStop::ReadFault) => Status::ReadFault,
         Err(ReadStop::TooLong) => Status::TooLong,
         Err(ReadStop::NoMemory) => Status::NoMemory,
     }
 }
 
-/// Writes the answer of `deal` to its input: the line where it is refused, or the figures.
+/// Writes the answer of a command to its input.
 fn write_answer<K: Sink>(
+    alloc: Global,
+    words: &[&str],
+    command: Command,
+    bytes: &[u8],
+    sink: &mut K,
+) -> Status
+    requires command { command_of (map (λ w. w.now) words.now) ≡ Some command }
+    requires limit { length bytes.now ≤ 67108864 }
+    ensures { Served (answer (map (λ w. w.now) words.now) bytes.now)
+        (told K.taken K.faults sink.old)
+        (told K.taken K.faults sink.new) result }
+{
+    match command {
+        Command::Deal(coin) => write_deal(alloc, words, coin, bytes, sink),
+        Command::Certify(coin) => write_certificate(alloc, words, coin, bytes, sink),
+        Command::Check { from, count } => write_verdict(check(bytes, from, count), sink),
+        Command::Tables => write_tables(sink),
+    }
+}
+
+/// Writes the answer of `deal` to its input: the line where it is refused, or the figures.
+fn write_deal<K: Sink>(
     alloc: Global,
     words: &[&str],
     coin: u8,
@@ -104,6 +135,36 @@ fn write_answer<K: Sink>(
     match read_deal_input(bytes, coin) {
         Ok(_) => write_done(alloc, words, bytes, sink),
         Err(refused) => write_refusal(refused, sink),
+    }
+}
+
+/// Writes the answer of `certify` to its input: the line where it is refused, or the certificate.
+fn write_certificate<K: Sink>(
+    alloc: Global,
+    words: &[&str],
+    coin: u8,
+    bytes: &[u8],
+    sink: &mut K,
+) -> Status
+    requires command { command_of (map (λ w. w.now) words.now) ≡ Some (Certify coin) }
+    requires limit { length bytes.now ≤ 67108864 }
+    ensures { Served (answer (map (λ w. w.now) words.now) bytes.now)
+        (told K.taken K.faults sink.old)
+        (told K.taken K.faults sink.new) result }
+{
+    match read_certify_input(bytes, coin) {
+        Ok(_) => write_done(alloc, words, bytes, sink),
+        Err(refused) => write_refusal(refused, sink),
+    }
+}
+
+/// Writes what a check of a certificate found. The check was made once, and takes no memory.
+fn write_verdict<K: Sink>(verdict: Result<Checked, Finding>, sink: &mut K) -> Status
+    ensures { Served (check_answer verdict) (told K.taken K.faults sink.old) (told K.taken K.faults sink.new) result }
+{
+    match put_verdict(verdict, sink) {
+        Ok(()) => check_status(verdict),
+        Err(WriteFault) => Status::WriteFault,
     }
 }
 

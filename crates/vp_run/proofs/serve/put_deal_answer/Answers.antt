@@ -3,7 +3,7 @@ use Rattle.std.proofs.Common.{ℕ, List, sym, ap}
 use Rattle.std.specs.Prelude.{Result}
 use Rattle.vp_pay.specs.declared.table.PayTable.{PayTable}
 use Rattle.vp_run.specs.Answer.{deal_answer, refusal}
-use Rattle.vp_run.proofs.Puts_laws.{Puts_as}
+use Rattle.vp_io.proofs.Puts_laws.{Puts_as}
 use Rattle.vp_run.proofs.serve.put_deal_answer.Goals as goal
 
 pub returns-in-Err : goal.returns-in-Err

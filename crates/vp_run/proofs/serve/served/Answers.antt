@@ -1,19 +1,23 @@
 -- Each command puts the text of its own answer.
 use Rattle.std.proofs.Common.{None, Some, sym, ap, ◌∙◌}
-use Rattle.vp_run.specs.Answer.{Answer, usage, tables_answer}
-use Rattle.vp_run.specs.declared.command.Command.TheVariants.{Deal, Tables}
-use Rattle.vp_run.proofs.NoCommand.{answer_as, region_deal}
-use Rattle.vp_run.proofs.Puts_laws.{Puts_as, Puts_whole}
+use Rattle.vp_run.specs.Answer.{Answer, check_answer, usage, tables_answer}
+use Rattle.vp_run.specs.declared.command.Command.TheVariants.{Certify, Check, Deal, Tables}
+use Rattle.vp_run.proofs.NoCommand.{answer_as, region_certify, region_deal}
+use Rattle.vp_io.proofs.Puts_laws.{Puts_as}
 use Rattle.vp_run.proofs.serve.served.Goals as goal
 
 pub put_deal_answer-requires-clause-region : goal.put_deal_answer-requires-clause-region
 put_deal_answer-requires-clause-region g c =
     region_deal _ c.in-Some-Deal.coin _ _ (sym c.command_of.ensures.is ∙ (c.in-Some-Deal.is ∙ ap Some c.in-Some-Deal.field-0-is)) c.requires.region
 
+pub put_certify_answer-requires-clause-region : goal.put_certify_answer-requires-clause-region
+put_certify_answer-requires-clause-region g c =
+    region_certify _ c.in-Some-Certify.coin _ _ (sym c.command_of.ensures.is ∙ (c.in-Some-Certify.is ∙ ap Some c.in-Some-Certify.field-0-is)) c.requires.region
+
 pub returns-in-None : goal.returns-in-None
 unfolding usage
 returns-in-None g c =
-    Puts_whole _ _ _ _ _ _ _ (ap (λ (a : Answer). a.text) (answer_as _ None _ (sym c.command_of.ensures.is ∙ c.in-None.is))) c.put.ensures.all c.put.ensures.part c.put.ensures.cause
+    Puts_as _ _ _ _ _ _ _ (ap (λ (a : Answer). a.text) (answer_as _ None _ (sym c.command_of.ensures.is ∙ c.in-None.is))) c.put.ensures
 
 pub returns-in-Some-Tables : goal.returns-in-Some-Tables
 unfolding tables_answer
@@ -23,3 +27,12 @@ returns-in-Some-Tables g c =
 pub returns-in-Some-Deal : goal.returns-in-Some-Deal
 returns-in-Some-Deal g c =
     Puts_as _ _ _ _ _ _ _ (ap (λ (a : Answer). a.text) (answer_as _ (Some (Deal c.in-Some-Deal.coin)) _ (sym c.command_of.ensures.is ∙ (c.in-Some-Deal.is ∙ ap Some c.in-Some-Deal.field-0-is)))) c.put_deal_answer.ensures
+
+pub returns-in-Some-Certify : goal.returns-in-Some-Certify
+returns-in-Some-Certify g c =
+    Puts_as _ _ _ _ _ _ _ (ap (λ (a : Answer). a.text) (answer_as _ (Some (Certify c.in-Some-Certify.coin)) _ (sym c.command_of.ensures.is ∙ (c.in-Some-Certify.is ∙ ap Some c.in-Some-Certify.field-0-is)))) c.put_certify_answer.ensures
+
+pub returns-in-Some-Check : goal.returns-in-Some-Check
+returns-in-Some-Check g c =
+    Puts_as _ _ _ _ _ _ _ (ap (λ (a : Answer). a.text)
+    (ap check_answer c.check.ensures.value ∙ answer_as _ (Some (Check c.in-Some-Check.from c.in-Some-Check.count)) _ (sym c.command_of.ensures.is ∙ (c.in-Some-Check.is ∙ ap Some c.in-Some-Check.field-0-is)))) c.put_verdict.ensures

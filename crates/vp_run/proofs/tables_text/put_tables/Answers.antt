@@ -1,5 +1,5 @@
 -- Each table is put behind those before it.
-use Rattle.vp_run.proofs.Puts_laws.{Puts_then, Puts_stopped}
+use Rattle.vp_io.proofs.Puts_laws.{Puts_then, Puts_stopped}
 use Rattle.vp_run.proofs.tables_text.put_tables.Goals as goal
 
 pub returns-in_err-put_built_in-2 : goal.returns-in_err-put_built_in-2

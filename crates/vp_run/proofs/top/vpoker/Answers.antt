@@ -1,7 +1,7 @@
 -- Words that need no input get their answer unread, and a command that reads gets its answer.
 use Rattle.std.proofs.Common.{None, Some, sym, ap, ◌∙◌}
 use Rattle.vp_run.specs.declared.command.Command.TheVariants.{Tables}
-use Rattle.vp_run.proofs.NoCommand.{Unread-as, none_needs, tables_need, deal_needs}
+use Rattle.vp_run.proofs.NoCommand.{Unread-as, none_needs, some_needs, tables_need, unread_tables}
 use Rattle.vp_run.proofs.top.vpoker.Goals as goal
 
 pub returns-in-None-clause-words : goal.returns-in-None-clause-words
@@ -10,18 +10,18 @@ returns-in-None-clause-words g c none = Unread-as _ None _ _ _ (sym c.command_of
 pub returns-in-None-clause-command : goal.returns-in-None-clause-command
 returns-in-None-clause-command g c needs = absurd (none_needs _ (sym c.command_of.ensures.is ∙ c.in-None.is) needs)
 
-pub returns-in-Some-Tables-clause-words : goal.returns-in-Some-Tables-clause-words
-returns-in-Some-Tables-clause-words g c none =
-    Unread-as _ (Some Tables) _ _ _ (sym c.command_of.ensures.is ∙ (c.in-Some-Tables.is ∙ ap Some c.in-Some-Tables.field-0-is)) c.write_tables.ensures
+pub returns-then-reads-clause-unread : goal.returns-then-reads-clause-unread
+returns-then-reads-clause-unread g c none = absurd (some_needs _ _ (sym c.command_of.ensures.is ∙ c.in-Some.is) (sym c.reads.ensures ∙ c.if-reads.true) none)
 
-pub returns-in-Some-Tables-clause-command : goal.returns-in-Some-Tables-clause-command
-returns-in-Some-Tables-clause-command g c needs =
-    absurd (tables_need _ (sym c.command_of.ensures.is ∙ (c.in-Some-Tables.is ∙ ap Some c.in-Some-Tables.field-0-is)) needs)
+pub returns-then-reads-clause-words : goal.returns-then-reads-clause-words
+returns-then-reads-clause-words g c none = absurd (some_needs _ _ (sym c.command_of.ensures.is ∙ c.in-Some.is) (sym c.reads.ensures ∙ c.if-reads.true) none)
 
-pub returns-in-Some-Deal-clause-unread : goal.returns-in-Some-Deal-clause-unread
-returns-in-Some-Deal-clause-unread g c none =
-    absurd (deal_needs _ c.in-Some-Deal.coin (sym c.command_of.ensures.is ∙ (c.in-Some-Deal.is ∙ ap Some c.in-Some-Deal.field-0-is)) none)
+pub returns-else-reads-clause-words : goal.returns-else-reads-clause-words
+returns-else-reads-clause-words g c none =
+    let is = ap Some (unread_tables c.in-Some.command (sym c.reads.ensures ∙ c.if-reads.false)) in
+    Unread-as _ (Some Tables) _ _ _ (sym c.command_of.ensures.is ∙ (c.in-Some.is ∙ is)) c.write_tables.ensures
 
-pub returns-in-Some-Deal-clause-words : goal.returns-in-Some-Deal-clause-words
-returns-in-Some-Deal-clause-words g c none =
-    absurd (deal_needs _ c.in-Some-Deal.coin (sym c.command_of.ensures.is ∙ (c.in-Some-Deal.is ∙ ap Some c.in-Some-Deal.field-0-is)) none)
+pub returns-else-reads-clause-command : goal.returns-else-reads-clause-command
+returns-else-reads-clause-command g c needs =
+    let is = ap Some (unread_tables c.in-Some.command (sym c.reads.ensures ∙ c.if-reads.false)) in
+    absurd (tables_need _ (sym c.command_of.ensures.is ∙ (c.in-Some.is ∙ is)) needs)

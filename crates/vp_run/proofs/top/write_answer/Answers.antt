@@ -1,9 +1,14 @@
--- The answer of `deal` is done where its input says a table and a hand, and else it is the refused line.
-use Rattle.vp_run.proofs.NoCommand.{deal_done, deal_refused}
+-- A check is made once, and its verdict is the answer.
+use Rattle.std.proofs.Common.{Some, ap, ◌∙◌, refl}
+use Rattle.vp_run.specs.Answer.{check_answer, tables_answer}
+use Rattle.vp_run.specs.declared.command.Command.TheVariants.{Check, Tables}
+use Rattle.vp_run.proofs.NoCommand.{served_as, unread_served}
 use Rattle.vp_run.proofs.top.write_answer.Goals as goal
 
-pub write_done-requires-clause-done : goal.write_done-requires-clause-done
-write_done-requires-clause-done g c = deal_done _ c.args.coin _ c.in-Ok.field-0 c.requires.command c.in-Ok.ensures.says
+pub returns-in-Check : goal.returns-in-Check
+returns-in-Check g c =
+    served_as _ (Check c.in-Check.from c.in-Check.count) _ _ (c.requires.command ∙ ap Some c.in-Check.is) (ap check_answer c.check.ensures.value) _ _ _ c.write_verdict.ensures
 
-pub returns-in-Err : goal.returns-in-Err
-returns-in-Err g c = deal_refused _ c.args.coin _ c.in-Err.refused.line c.requires.command c.in-Err.ensures.says _ _ _ c.write_refusal.ensures
+pub returns-in-Tables : goal.returns-in-Tables
+returns-in-Tables g c =
+    served_as _ Tables _ tables_answer (c.requires.command ∙ ap Some c.in-Tables.is) refl _ _ _ (unread_served tables_answer _ _ _ c.write_tables.ensures)
