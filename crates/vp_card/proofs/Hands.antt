@@ -1,15 +1,16 @@
 -- Hands, and what a mask holds of them.
-use Rattle.std.proofs.Common.{◌≡◌, ℕ, ◌+◌, ◌/◌, ◌%◌, ◌<◌, ◌≤◌, Bool, true, false, cond, ◌==◌, nat_lt, eqb, List, [], ◌∷◌, ◌++◌, length, get_or, drop, refl, ap, sym, ◌∙◌, arith, append_assoc, subst, Some, None}
+use Rattle.std.proofs.Common.{◌≡◌, ℕ, ◌+◌, ◌/◌, ◌%◌, ◌<◌, ◌≤◌, Bool, true, false, cond, ◌==◌, eqb, List, [], ◌∷◌, ◌++◌, length, get_or, drop, refl, ap, sym, ◌∙◌, arith, append_assoc, subst, Some, None}
 use Rattle.std.proofs.lemmas.Bool.Decides.{nat_tests}
 use Rattle.std.specs.List.{IsDistinct}
 use Rattle.std.specs.List.Sorted.{IsPermutation, IsSorted, IsStrictlyIncreasing}
 use Rattle.std.specs.Ordering.{nat_cmp}
-use Rattle.std.proofs.lemmas.List.Sums.{AllPass-from_list_all, list_all-from_AllPass}
-use Rattle.std.proofs.lemmas.List.Sorted.{All-permutation, IsNonDecreasingBy-from_sort, IsPermutation-sym}
+use Rattle.std.proofs.lemmas.List.Sorted.{IsNonDecreasingBy-from_sort, IsPermutation-sym}
 use Rattle.std.proofs.lemmas.Map.Keys.{IsDistinct-IsPermutation, IsDistinct-from_apart, IsStrictlyIncreasing-from_distinct, sorted_from_strictly_increasing, below_from_sorted}
 use Rattle.std.proofs.lemmas.List.{drop_more, drop_all, append-nil}
 use Rattle.vp_card.specs.Cards.{IsHand, in_deck, held, all_differ, in_order}
-use Rattle.vp_card.proofs.Order.{rising-in_order, differ-distinct, distinct-differ}
+use Rattle.vp_card.proofs.Differ.{differ-distinct, distinct-differ}
+use Rattle.vp_card.proofs.InDeck.{in_deck-IsPermutation}
+use Rattle.vp_card.proofs.Rising.{rising-in_order}
 
 -- what is held from place i on
 pub held_more : (mask : ℕ) (cards : List ℕ) (i : ℕ) → i < length cards
@@ -35,12 +36,6 @@ pub held_all : (mask : ℕ) (cards done all : List ℕ) (i : ℕ) → length car
 held_all mask cards done all i past so_far =
     let end : drop i cards ≡ [] = drop_all i cards past
     in sym (append-nil done) ∙ (rw end at so_far)
-
--- cards of a deck stay so when they change places
-pub in_deck-IsPermutation : (n : ℕ) (cards sorted : List ℕ) → IsPermutation cards sorted → in_deck n cards ≡ true → in_deck n sorted ≡ true
-in_deck-IsPermutation n cards sorted same below =
-    let test : ℕ → Bool = λ card. nat_lt card n
-    in list_all-from_AllPass test sorted (All-permutation (λ card. test card ≡ true) cards sorted same (AllPass-from_list_all test cards below))
 
 flips : (x y : ℕ) → eqb x y ≡ eqb y x
 flips x y = grind (arith, nat_tests)

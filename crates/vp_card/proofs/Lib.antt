@@ -1,4 +1,6 @@
 pub mod Hands
-pub mod Order
+pub mod InDeck
+pub mod Differ
 pub mod RankSets
+pub mod Rising
 pub mod Texts

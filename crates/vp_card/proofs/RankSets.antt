@@ -1,25 +1,22 @@
 -- Texts of sets of ranks: each set is read from its text, and from no other.
-use Rattle.std.proofs.Common.{◌≡◌, ℕ, ◌+◌, ◌*◌, ◌/◌, ◌%◌, ◌^◌, ◌<◌, ◌≤◌, Bool, true, false, cond, not, ◌&&◌, ◌==◌, eqb, List, [], ◌∷◌, length, get_or, drop, refl, ap, sym, ◌∙◌, arith, Some, None, eqb-true, eq-eqb, IfSome, pow-suc, mul_assoc, mul-add, mul-zero, add-one}
+use Rattle.std.proofs.Common.{◌≡◌, ℕ, ◌+◌, ◌*◌, ◌/◌, ◌%◌, ◌^◌, ◌<◌, ◌≤◌, Bool, true, false, cond, not, ◌==◌, eqb, List, [], ◌∷◌, length, drop, refl, ap, sym, ◌∙◌, arith, Some, None, eqb-true, eq-eqb, IfSome, pow-suc, mul-zero}
 use Rattle.std.specs.Prelude.{Option, option_map, bytes_eq}
-use Rattle.std.proofs.lemmas.List.{drop_more, drop_all}
+use Rattle.std.specs.Bool.{then_some}
+use Rattle.std.proofs.lemmas.List.{drop_all}
 use Rattle.std.proofs.Math.Pow.{pow_mono}
-use Rattle.std.proofs.lemmas.Bool.{eqb-false}
+use Rattle.std.proofs.lemmas.Bool.{and_parts, eqb-false}
 use Rattle.std.proofs.lemmas.Bool.Decides.{nat_tests}
 use Rattle.std.proofs.lemmas.Slice.Eq.{bytes_eq-Decides}
 use Rattle.vp_card.specs.Cards.{held, is_rank_set, absent, all_differ}
 use Rattle.vp_card.specs.Texts.{rank_letters, any_text, rank_set_text}
 use Rattle.vp_card.specs.Reading.{bits_of, begins, some_not_all, and_some, rank_set_of}
-
-both-true : (p q : Bool) → (p && q) ≡ true → (p ≡ true) × (q ≡ true)
-both-true true true h = (refl, refl)
-both-true true false h = cc
-both-true false q h = cc
+use Rattle.vp_card.proofs.Texts.{same_text, found_text}
 
 -- a letter that is none of these begins no text of them
 begins-held : (letter mask : ℕ) (letters : List ℕ) → absent letter letters ≡ true → begins letter (held mask letters) ≡ false
 begins-held letter mask [] fresh = refl
 begins-held letter mask (other ∷ more) fresh =
-    let parts = both-true _ _ fresh
+    let parts = and_parts _ _ fresh
     in chosen (mask % 2 == 1) (differ _ parts.0) (begins-held letter (mask / 2) more parts.1)
   where
     differ : (same : Bool) → not same ≡ true → same ≡ false
@@ -42,7 +39,7 @@ bits_of-has letter letters text = rw (eq-eqb letter letter refl)
 pub bits_of-held : (letters : List ℕ) (mask : ℕ) → all_differ letters ≡ true → mask < 2 ^ length letters → bits_of letters (held mask letters) ≡ Some mask
 bits_of-held [] mask differ below = ap Some (omega arith)
 bits_of-held (letter ∷ letters) mask differ below =
-    let parts = both-true (absent letter letters) (all_differ letters) differ
+    let parts = and_parts (absent letter letters) (all_differ letters) differ
     in let half : mask / 2 < 2 ^ length letters = omega (arith, pow-suc 2 (length letters))
     in chosen (mask % 2 == 1) refl (begins-held letter (mask / 2) letters parts.0) (bits_of-held letters (mask / 2) parts.1 half)
   where
@@ -103,65 +100,22 @@ held-bits_of (letter ∷ letters) (byte ∷ text) mask read = chosen (letter == 
 
 -- ---- reading the letters one by one
 
-twice : (bits bit s : ℕ) → bits + bit * (2 * s + 1) ≡ bits + bit + bit * 2 * s
-twice bits bit s = rw (mul-add, mul_assoc) (omega arith)
-
-even : (bits bit s : ℕ) → bits + bit * (2 * s) ≡ bits + bit * 2 * s
-even bits bit s = rw mul_assoc
-
-mapped : {A B C : Type 0} (f : B → C) (g : A → B) (h : A → C) (o : Option A) → ((x : A) → f (g x) ≡ h x) → option_map f (option_map g o) ≡ option_map h o
-mapped f g h None same = refl
-mapped f g h (Some x) same = ap Some (same x)
-
-begun : (letter : ℕ) (rest : List ℕ) → begins letter rest ≡ true → rest ≡ letter ∷ drop 1 rest
-begun letter [] h = cc
-begun letter (byte ∷ rest) h = ap (λ first. first ∷ rest) (sym (eqb-true letter byte h))
-
--- the next letter is read
-pub bits_of-taken : (letters rest : List ℕ) (i bits bit : ℕ) (all : Option ℕ) → i < length letters → begins (get_or letters i 0) rest ≡ true
-    → option_map (λ s. bits + bit * s) (bits_of (drop i letters) rest) ≡ all
-    → option_map (λ s. (bits + bit) + bit * 2 * s) (bits_of (drop (i + 1) letters) (drop 1 rest)) ≡ all
-bits_of-taken letters rest i bits bit all inside next so_far =
-    let letter = get_or letters i 0
-    in let here : bits_of (drop i letters) rest ≡ option_map (λ s. 2 * s + 1) (bits_of (drop (i + 1) letters) (drop 1 rest)) =
-    ap (λ left. bits_of left rest) (drop_more letters i 0 inside) ∙ (ap (bits_of (letter ∷ drop (i + 1) letters)) (begun letter rest next) ∙ bits_of-has letter (drop (i + 1) letters) (drop 1 rest))
-    in sym (mapped (λ s. bits + bit * s) (λ s. 2 * s + 1) (λ s. (bits + bit) + bit * 2 * s) (bits_of (drop (i + 1) letters) (drop 1 rest)) (λ s. twice bits bit s))
-    ∙ (ap (option_map (λ s. bits + bit * s)) (sym here) ∙ so_far)
-
--- the next letter is none of the text
-pub bits_of-passed : (letters rest : List ℕ) (i bits bit : ℕ) (all : Option ℕ) → i < length letters → begins (get_or letters i 0) rest ≡ false
-    → option_map (λ s. bits + bit * s) (bits_of (drop i letters) rest) ≡ all
-    → option_map (λ s. bits + bit * 2 * s) (bits_of (drop (i + 1) letters) rest) ≡ all
-bits_of-passed letters rest i bits bit all inside other so_far =
-    let here : bits_of (drop i letters) rest ≡ option_map (λ s. 2 * s) (bits_of (drop (i + 1) letters) rest) =
-    rw (drop_more letters i 0) (bits_of-lacks (get_or letters i 0) (drop (i + 1) letters) rest other)
-    in sym (mapped (λ s. bits + bit * s) (λ s. 2 * s) (λ s. bits + bit * 2 * s) (bits_of (drop (i + 1) letters) rest) (λ s. even bits bit s))
-    ∙ (ap (option_map (λ s. bits + bit * s)) (sym here) ∙ so_far)
-
--- what was read, where the text is used up
-abbrev pub used_up : Bool → ℕ → Option ℕ
-used_up true bits = Some bits
-used_up false bits = None
-
 -- at the end the text is used up, or it is none of the letters
 pub bits_of-end : (letters rest : List ℕ) (i bits bit : ℕ) (all : Option ℕ) → length letters ≤ i
     → option_map (λ s. bits + bit * s) (bits_of (drop i letters) rest) ≡ all
-    → used_up (length rest == 0) bits ≡ all
+    → then_some (length rest == 0) bits ≡ all
 bits_of-end letters rest i bits bit all past so_far =
     ending rest (rw (drop_all i letters) at so_far)
   where
-    ending : (rest : List ℕ) → option_map (λ s. bits + bit * s) (bits_of [] rest) ≡ all → used_up (length rest == 0) bits ≡ all
+    ending : (rest : List ℕ) → option_map (λ s. bits + bit * s) (bits_of [] rest) ≡ all → then_some (length rest == 0) bits ≡ all
     ending [] h = ap Some (let none : bits ≡ bits + bit * 0 = rw mul-zero (omega arith) in none) ∙ h
     ending (byte ∷ more) h =
         let some : (length (byte ∷ more) == 0) ≡ false = grind (arith, nat_tests)
-        in ap (λ test. used_up test bits) some ∙ h
+        in ap (λ test. then_some test bits) some ∙ h
 
 -- a bit of one of thirteen ranks
 pub bit_fits : (bit i : ℕ) → bit ≡ 2 ^ i → i < 13 → bit * 2 ≤ 8192
 bit_fits bit i is below = let most = pow_mono {i = i} {j = 12} (omega arith) in omega arith
-
-pub next_bit : (bit i : ℕ) → bit ≡ 2 ^ i → bit * 2 ≡ 2 ^ (i + 1)
-next_bit bit i is = rw (add-one, pow-suc 2 i, is)
 
 -- ---- sets of ranks
 
@@ -236,11 +190,8 @@ text-rank_set_of text set read = chosen (bytes_eq text any_text) (bytes_eq-Decid
 
 -- two sets with one text are one set
 pub rank_set_text-same : (a b : ℕ) → is_rank_set a ≡ true → is_rank_set b ≡ true → rank_set_text a ≡ rank_set_text b → a ≡ b
-rank_set_text-same a b is_a is_b same =
-    let read : Some a ≡ Some b = sym (rank_set_of-text a is_a) ∙ (ap rank_set_of same ∙ rank_set_of-text b is_b)
-    in cc
+rank_set_text-same a b is_a is_b same = same_text rank_set_text rank_set_of a b (rank_set_of-text a is_a) (rank_set_of-text b is_b) same
 
 -- what a reader of sets answers
 pub found_rank_set : (text : List ℕ) (read : Option ℕ) → read ≡ rank_set_of text → IfSome read (λ set. rank_set_text set ≡ text)
-found_rank_set text None is = tt
-found_rank_set text (Some set) is = (text-rank_set_of text set (sym is)).1
+found_rank_set text read is = found_text rank_set_text rank_set_of (λ t set r. (text-rank_set_of t set r).1) text read is

@@ -95,13 +95,24 @@ pub text-card_of : (text : List ℕ) (card : ℕ) → card_of text ≡ Some card
 unfolding card_of
 text-card_of text card read = card_or (bytes_eq text joker_text) text card (bytes_eq-Decides text joker_text).0 read
 
+-- ---- values that are read from their texts
+
+-- two values with one text, each of which is read from it, are one
+pub same_text : (text : ℕ → List ℕ) (read : List ℕ → Option ℕ) (a b : ℕ) → read (text a) ≡ Some a → read (text b) ≡ Some b → text a ≡ text b → a ≡ b
+same_text text read a b is_a is_b same =
+    let once : Some a ≡ Some b = sym is_a ∙ (ap read same ∙ is_b)
+    in cc
+
+-- where a value is read from its text alone, what is read has the text
+pub found_text : (text : ℕ → List ℕ) (read : List ℕ → Option ℕ) → ((letters : List ℕ) (value : ℕ) → read letters ≡ Some value → text value ≡ letters)
+    → (letters : List ℕ) (found : Option ℕ) → found ≡ read letters → IfSome found (λ value. text value ≡ letters)
+found_text text read alone letters None is = tt
+found_text text read alone letters (Some value) is = alone letters value (sym is)
+
 -- two cards with one text are one card
 pub card_text-same : (a b : ℕ) → a < 53 → b < 53 → card_text a ≡ card_text b → a ≡ b
-card_text-same a b is_a is_b same =
-    let read : Some a ≡ Some b = sym (card_of-text a is_a) ∙ (ap card_of same ∙ card_of-text b is_b)
-    in cc
+card_text-same a b is_a is_b same = same_text card_text card_of a b (card_of-text a is_a) (card_of-text b is_b) same
 
 -- what a reader of cards answers
 pub found_card : (text : List ℕ) (read : Option ℕ) → read ≡ card_of text → IfSome read (λ card. card_text card ≡ text)
-found_card text None is = tt
-found_card text (Some card) is = (text-card_of text card (sym is)).1
+found_card text read is = found_text card_text card_of (λ t card r. (text-card_of t card r).1) text read is

@@ -8,7 +8,7 @@ use Rattle.std.specs.Int.{bit_at}
 abbrev pub rank : ℕ → ℕ
 rank card = card / 4
 
--- the suit of a card: clubs, diamonds, hearts, spades are 0 to 3
+-- the suit of a natural card: clubs, diamonds, hearts, spades are 0 to 3; a joker has none, and who asks for a suit asks first whether the card is natural
 abbrev pub suit : ℕ → ℕ
 suit card = card % 4
 
@@ -46,11 +46,15 @@ all_differ [] = true
 all_differ (card ∷ cards) = absent card cards && all_differ cards
 
 -- a card put into a rising row at its place
-abbrev pub place : ℕ → List ℕ → List ℕ
+unfoldable pub place : ℕ → List ℕ → List ℕ
 place card [] = card ∷ []
 place card (other ∷ more) = if nat_lt card other then card ∷ other ∷ more else other ∷ place card more
 
+-- cards put one by one into a rising row
+unfoldable pub joined : List ℕ → List ℕ → List ℕ
+joined [] row = row
+joined (card ∷ cards) row = place card (joined cards row)
+
 -- the cards in rising order
 unfoldable pub in_order : List ℕ → List ℕ
-in_order [] = []
-in_order (card ∷ cards) = place card (in_order cards)
+in_order cards = joined cards []

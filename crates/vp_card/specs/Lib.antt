@@ -1,3 +1,4 @@
 pub mod Cards
 pub mod Reading
 pub mod Texts
+pub mod Rising

@@ -1,6 +1,7 @@
 //! A card: its number.
 
 ghost use Rattle.std.specs.Prelude.{◌≡◌, ℕ, ◌<◌, Some, None, IfSome, if◌then◌else◌, nat_lt};
+ghost use Rattle.vp_card.specs.Cards.{in_deck};
 ghost use Rattle.vp_card.specs.Texts.{card_text};
 ghost use Rattle.vp_card.specs.Reading.{card_of};
 
@@ -90,6 +91,13 @@ fn card_of(text: &[u8]) -> Option<Card>
         }
         _ => None,
     }
+}
+
+/// Whether each card is of the deck of so many cards: 52 are the natural cards, 53 these and the joker.
+pub fn in_deck(cards: &[Card], deck: u8) -> bool
+    ensures { result ≡ in_deck deck cards.now }
+{
+    cards.iter().all(|card| card.number() < deck)
 }
 
 /// Two cards with one text are one card.

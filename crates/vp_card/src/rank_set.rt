@@ -113,7 +113,7 @@ fn bits_of(text: &[u8]) -> Option<u16>
         }
         bit *= 2;
     }
-    if rest.is_empty() { Some(bits) } else { None }
+    rest.is_empty().then_some(bits)
 }
 
 fn begins(letter: u8, text: &[u8]) -> bool

@@ -1,6 +1,6 @@
 //! Texts of cards and of sets of ranks as a player writes them, and a hand.
 
-use crate::{Card, Hand, RankSet};
+use crate::{Card, Hand, RankSet, in_deck};
 use std::test::*;
 
 #[test]
@@ -25,6 +25,11 @@ fn hand_in_order(rt: HostRuntime) -> Result<(), Fail> {
     let hand = Hand::of([ace, king, four, ten, queen]).ok_or("five different cards")?;
     assert_eq!(rt; hand.numbers(), [11, 35, 43, 47, 51]);
     assert_eq!(rt; hand.held(6).len(), 2);
+    assert!(rt; hand.is_of_deck(52));
+    assert!(rt; !hand.is_of_deck(51));
+    let joker = Card::read(b"Jo").ok_or("a card")?;
+    assert!(rt; in_deck(&[ace, joker], 53));
+    assert!(rt; !in_deck(&[ace, joker], 52));
     assert!(rt; Hand::of([ace, king, four, ace, queen]).is_none());
     Ok(())
 }
