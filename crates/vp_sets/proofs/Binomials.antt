@@ -1,6 +1,6 @@
 -- Binomial numbers.
-use Rattle.std.proofs.Common.{◌≡◌, ◌⊎◌, inl, inr, ℕ, zero, suc, ◌+◌, ◌-◌, ◌*◌, ◌/◌, ◌^◌, ◌<◌, ◌≤◌, refl, ap, ◌∙◌, arith, add-one, lit<}
-use Rattle.std.proofs.Math.Nat.{suc-mul, pow-suc, pow-zero, mul-le-mul_left, pow-le-pow_left, mul_comm, le_trans, add-mul, mul-div_cancel_left, pow-le-pow_right, mul-le-mul}
+use Rattle.std.proofs.Common.{◌≡◌, ◌⊎◌, inl, inr, ℕ, zero, suc, ◌+◌, ◌-◌, ◌*◌, ◌^◌, ◌<◌, ◌≤◌, refl, ap, ◌∙◌, arith, lit<}
+use Rattle.std.proofs.Math.Nat.{suc-mul, pow-suc, pow-zero, mul-le-mul_left, pow-le-pow_left, mul_comm, le_trans, add-mul, pow-le-pow_right}
 use Rattle.std.proofs.lemmas.Bool.{cases_lt}
 use Rattle.vp_sets.specs.Sets.{choose}
 
@@ -87,24 +87,12 @@ next_ratio n k a b none h =
 pub choose_times : (n k : ℕ) → suc k * choose n (suc k) ≡ choose n k * (n - k)
 choose_times n k = next_ratio n k (choose n k) (choose n (suc k)) (choose-few n k) (choose_next n k)
 
--- the same as a quotient
-pub choose_ratio : (n k : ℕ) → choose n k * (n - k) / (k + 1) ≡ choose n (k + 1)
-choose_ratio n k = rw (add-one, ← choose_times n k) (mul-div_cancel_left (choose n (suc k)) (omega arith))
-
 -- no number of sets of the decks is large
 pub choose_small : (n k : ℕ) → n ≤ 54 → k ≤ 5 → choose n k ≤ 459165024
 choose_small n k a b =
     let p : n ^ k ≤ 54 ^ k = pow-le-pow_left a k in
     let q : 54 ^ k ≤ 54 ^ 5 = pow-le-pow_right (lit< tt) b in
     le_trans (choose_le_pow n k) (le_trans p q)
-
--- the product in front of the quotient is not large either
-pub choose_product : (n k : ℕ) → n ≤ 54 → k < 5 → choose n k * (n - k) < 2 ^ 64
-choose_product n k a b =
-    let p : choose n (suc k) ≤ 459165024 = choose_small n (suc k) a (omega arith) in
-    let q : suc k * choose n (suc k) ≤ 5 * 459165024 = mul-le-mul {n₂ = 5} (omega arith) p in
-    let r : suc k * choose n (suc k) ≡ choose n k * (n - k) = choose_times n k in
-    omega arith
 
 -- there is a choice where there are members enough
 pub choose_pos : (n k : ℕ) → k ≤ n → 0 < choose n k
@@ -113,34 +101,3 @@ choose_pos zero (suc k) h = absurd (omega arith)
 choose_pos (suc n) (suc k) h =
     let p : 0 < choose n k = choose_pos n k (omega arith) in
     omega (arith, choose-suc n k)
-
--- the numbers of draws from 47 cards, and from 48
-pub choose-47-1 : choose 47 1 ≡ 47
-choose-47-1 = omega (arith, choose_times 47 0, choose-zero 47)
-
-pub choose-47-2 : choose 47 2 ≡ 1081
-choose-47-2 = omega (arith, choose_times 47 1, choose-47-1)
-
-pub choose-47-3 : choose 47 3 ≡ 16215
-choose-47-3 = omega (arith, choose_times 47 2, choose-47-2)
-
-pub choose-47-4 : choose 47 4 ≡ 178365
-choose-47-4 = omega (arith, choose_times 47 3, choose-47-3)
-
-pub choose-47-5 : choose 47 5 ≡ 1533939
-choose-47-5 = omega (arith, choose_times 47 4, choose-47-4)
-
-pub choose-48-1 : choose 48 1 ≡ 48
-choose-48-1 = omega (arith, choose_times 48 0, choose-zero 48)
-
-pub choose-48-2 : choose 48 2 ≡ 1128
-choose-48-2 = omega (arith, choose_times 48 1, choose-48-1)
-
-pub choose-48-3 : choose 48 3 ≡ 17296
-choose-48-3 = omega (arith, choose_times 48 2, choose-48-2)
-
-pub choose-48-4 : choose 48 4 ≡ 194580
-choose-48-4 = omega (arith, choose_times 48 3, choose-48-3)
-
-pub choose-48-5 : choose 48 5 ≡ 1712304
-choose-48-5 = omega (arith, choose_times 48 4, choose-48-4)

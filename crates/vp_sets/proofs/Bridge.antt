@@ -1,14 +1,17 @@
 -- The sum over the draws of a hold is a sum over all sets, of which those count that have the held cards and no discard.
 use Rattle.std.proofs.Common.{◌≡◌, ◌⊎◌, inl, inr, ℕ, zero, suc, ◌+◌, ◌/◌, ◌%◌, ◌<◌, ◌≤◌, refl, ap, sym, ◌∙◌, arith, Bool, true, false, cond, not, ◌||◌, ◌==◌, List, [], ◌∷◌, ◌++◌, length}
 use Rattle.std.proofs.lemmas.Bool.{cases_eq, cases_Bool, eq-eqb, ne_eqb, or_left, or_right, cond-true, cond-false, false≢true, true≢false}
-use Rattle.vp_sets.specs.Sets.{IsBelow, IsRising, deck, has, without, place, joined}
-use Rattle.vp_card.specs.Cards.{held}
+use Rattle.vp_sets.specs.Sets.{deck, has, without}
+use Rattle.vp_card.specs.Cards.{held, place, joined}
+use Rattle.vp_card.specs.Rising.{IsBelow, IsRising}
 use Rattle.vp_sets.specs.Draws.{discarded, draws, sum_over_draws}
 use Rattle.vp_sets.specs.Index.{IsSet}
 use Rattle.vp_sets.proofs.Decks.{rising-deck}
 use Rattle.vp_sets.proofs.Colex.{Below, set_rises, set_below}
+use Rattle.vp_sets.proofs.Holds.{length-held}
 use Rattle.vp_sets.proofs.Over.{less, over, over_is, over_agree}
-use Rattle.vp_sets.proofs.Spread.{has-none, has-here, has-later, has-cons, place-none, place-here, place-later, less-rises, less-keeps, only_with, only_without, over_with, over_without}
+use Rattle.vp_card.proofs.Rising.{place-none, place-here, place-later, joined-none, joined-cons}
+use Rattle.vp_sets.proofs.Spread.{has-none, has-here, has-later, has-cons, less-rises, less-keeps, only_with, only_without, over_with, over_without}
 
 -- all members of the one list are in the other
 abbrev pub Within : List ℕ → List ℕ → Type 0
@@ -57,17 +60,6 @@ discarded-held m c cs h = cond-true (m % 2 == 1) (discarded (m / 2) cs) (c ∷ d
 pub discarded-discarded : (m c : ℕ) (cs : List ℕ) → (m % 2 == 1) ≡ false → discarded m (c ∷ cs) ≡ c ∷ discarded (m / 2) cs
 unfolding discarded
 discarded-discarded m c cs h = cond-false (m % 2 == 1) (discarded (m / 2) cs) (c ∷ discarded (m / 2) cs) h
-
--- every card is held or discarded
-pub held_and_discarded : (m : ℕ) (cs : List ℕ) → length (held m cs) + length (discarded m cs) ≡ length cs
-held_and_discarded m [] = rw (held-none m, discarded-none m) refl
-held_and_discarded m (c ∷ cs) =
-    let e : ((m % 2 == 1) ≡ true) ⊎ ((m % 2 == 1) ≡ false) = cases_Bool (m % 2 == 1) in
-    let ih : length (held (m / 2) cs) + length (discarded (m / 2) cs) ≡ length cs = held_and_discarded (m / 2) cs in
-    elim e [
-      | inl h ↦ omega (arith, ap length (held-held m c cs h), ap length (discarded-held m c cs h))
-      | inr h ↦ omega (arith, ap length (held-discarded m c cs h), ap length (discarded-discarded m c cs h))
-    ]
 
 pub has-place : (c x : ℕ) (y : List ℕ) → (c ≡ x → ⊥) → has (place c y) x ≡ has y x
 has-place c x [] ne = ap (λ r. has r x) (place-none c) ∙ has-later c [] x ne
@@ -123,14 +115,6 @@ without-cons (d ∷ s) c cs = by_test (c == d) (without-cons s c cs)
         by_has true ih = ap (λ r. d ∷ r) ih
         by_has false ih = ih
 
-pub joined-none : (y : List ℕ) → joined [] y ≡ y
-unfolding joined
-joined-none y = refl
-
-pub joined-cons : (c : ℕ) (cs y : List ℕ) → joined (c ∷ cs) y ≡ place c (joined cs y)
-unfolding joined
-joined-cons c cs y = refl
-
 -- a sum over the sets that have the held cards and no discard is a sum over what stands beside the held cards
 pub bridge : (m : ℕ) (hand s : List ℕ) (j : ℕ) (f : List ℕ → ℕ) → IsRising s → IsRising hand → Within hand s → over (length (held m hand) + j) s (kept m hand f) ≡ over j (without s hand) (λ y. f (joined (held m hand) y))
 bridge m [] s j f r q w =
@@ -174,7 +158,7 @@ bridge m (c ∷ cs) s j f r q w =
 pub draws_are : (f : List ℕ → ℕ) (n : ℕ) (hand : List ℕ) (m : ℕ) → IsRising (deck n) → IsRising hand → Within hand (deck n) → over (length hand) (deck n) (kept m hand f) ≡ sum_over_draws f n hand m
 unfolding sum_over_draws draws
 draws_are f n hand m r q w =
-    let a : over (length hand) (deck n) (kept m hand f) ≡ over (length (held m hand) + length (discarded m hand)) (deck n) (kept m hand f) = ap (λ i. over i (deck n) (kept m hand f)) (sym (held_and_discarded m hand)) in
+    let a : over (length hand) (deck n) (kept m hand f) ≡ over (length (held m hand) + length (discarded m hand)) (deck n) (kept m hand f) = ap (λ i. over i (deck n) (kept m hand f)) (sym (length-held m hand)) in
     a ∙ bridge m hand (deck n) (length (discarded m hand)) f r q w ∙ over_is (length (discarded m hand)) (without (deck n) hand) (λ y. f (joined (held m hand) y))
 
 has-behind : (s : List ℕ) (n c : ℕ) → has s c ≡ true → has (s ++ n ∷ []) c ≡ true

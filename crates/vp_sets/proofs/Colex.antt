@@ -1,24 +1,22 @@
 -- The numbering of sets in colex order, and the list of all sets.
-use Rattle.std.proofs.Common.{◌≡◌, ◌⊎◌, inl, inr, ℕ, zero, suc, ◌+◌, ◌-◌, ◌<◌, ◌≤◌, refl, ap, sym, ◌∙◌, subst, arith, zero-add, add-one, true, List, [], ◌∷◌, ◌++◌, length, get_or, map}
+use Rattle.std.proofs.Common.{◌≡◌, ◌⊎◌, inl, inr, ℕ, zero, suc, ◌+◌, ◌-◌, ◌<◌, ◌≤◌, refl, ap, sym, ◌∙◌, subst, arith, zero-add, add-one, true, false, cond, nat_lt, List, [], ◌∷◌, ◌++◌, length, get_or, map}
 use Rattle.std.specs.List.{sum_by}
 use Rattle.std.specs.List.Sorted.{IsStrictlyIncreasing, IsPermutation}
 use Rattle.std.proofs.lemmas.List.{length-append, length-map, get_or_append_left, get_or-append_right, get_or-map, append_assoc}
 use Rattle.std.proofs.lemmas.List.Sorted.{IsPermutation-refl, IsPermutation-trans, IsPermutation-map, IsPermutation-append, IsPermutation-append_left, IsPermutation-append_right, IsPermutation-append_comm, sum_by-IsPermutation}
 use Rattle.std.proofs.lemmas.Bool.{cases_lt}
-use Rattle.vp_card.specs.Cards.{IsHand, in_deck}
-use Rattle.vp_sets.specs.Sets.{IsBelow, IsRising, deck, combos, choose}
-use Rattle.vp_sets.specs.Index.{IsSet, index_from, colex}
-use Rattle.vp_sets.proofs.Decks.{in_deck-cons}
+use Rattle.vp_card.specs.Cards.{IsHand, in_deck, place}
+use Rattle.vp_card.specs.Rising.{IsBelow, IsRising}
+use Rattle.vp_sets.specs.Sets.{deck, combos, choose}
+use Rattle.vp_sets.specs.Index.{IsSet, index_from, set_index, colex}
+use Rattle.vp_card.proofs.InDeck.{in_deck-cons}
+use Rattle.vp_card.proofs.Rising.{below_behind, rising_from}
 use Rattle.vp_sets.proofs.Binomials.{choose-zero, choose-none, choose-suc}
 
 -- every member is below n
 abbrev pub Below : ℕ → List ℕ → Type 0
 Below n [] = Unit {0}
 Below n (c ∷ s) = (c < n) × Below n s
-
-above_from : (c : ℕ) (s : List ℕ) → ((k : ℕ) → k < length s → c < get_or s k 0) → IsBelow c s
-above_from c [] h = tt
-above_from c (d ∷ s) h = (h 0 (omega arith), above_from c s (λ k l. h (suc k) (omega arith)))
 
 pub below_from : (n : ℕ) (s : List ℕ) → ((k : ℕ) → k < length s → get_or s k 0 < n) → Below n s
 below_from n [] h = tt
@@ -34,23 +32,6 @@ below_at n [] k h l = absurd (omega arith)
 below_at n (d ∷ s) zero h l = h.0
 below_at n (d ∷ s) (suc k) h l = below_at n s k h.1 (omega arith)
 
-rises_from_steps : (s : List ℕ) → ((k : ℕ) → suc k < length s → get_or s k 0 < get_or s (suc k) 0) → IsRising s
-rises_from_steps [] h = tt
-rises_from_steps (c ∷ s) h = (above_steps c s h, rises_from_steps s (λ k l. h (suc k) (omega arith)))
-  where
-    above_steps : (c : ℕ) (s : List ℕ) → ((k : ℕ) → suc k < length (c ∷ s) → get_or (c ∷ s) k 0 < get_or (c ∷ s) (suc k) 0) → IsBelow c s
-    above_steps c s h = above_from c s (λ k l. climb k l)
-      where
-        climb : (k : ℕ) → k < length s → c < get_or s k 0
-        climb zero l = h 0 (omega arith)
-        climb (suc k) l =
-            let a : c < get_or s k 0 = climb k (omega arith) in
-            let b : get_or s k 0 < get_or s (suc k) 0 = h (suc k) (omega arith) in
-            omega arith
-
-pub rises_from : (s : List ℕ) → IsStrictlyIncreasing s → IsRising s
-rises_from s h = rises_from_steps s (λ k l. let l' : k + 1 < length s = omega arith in rw add-one at (h k l'))
-
 pub rises_at : (s : List ℕ) (k : ℕ) → IsRising s → suc k < length s → get_or s k 0 < get_or s (suc k) 0
 rises_at [] k h l = absurd (omega arith)
 rises_at (c ∷ s) zero h l = above_at c s 0 h.0 (omega arith)
@@ -65,7 +46,7 @@ get_or_any (c ∷ s) zero d e l = refl
 get_or_any (c ∷ s) (suc k) d e l = get_or_any s k d e (omega arith)
 
 pub set_rises : (n : ℕ) (s : List ℕ) → IsSet n s → IsRising s
-set_rises n s h = rises_from s h.rising
+set_rises n s h = rising_from s h.rising
 
 pub set_below : (n : ℕ) (s : List ℕ) → IsSet n s → Below n s
 set_below n s h = below_from n s (λ k l. h.below k 0 l)
@@ -73,21 +54,25 @@ set_below n s h = below_from n s (λ k l. h.below k 0 l)
 pub set_from : (n : ℕ) (s : List ℕ) → IsRising s → Below n s → IsSet n s
 set_from n s r b = record { rising = increasing_from s r; below = λ k d l. rw (get_or_any s k d 0 l) (below_at n s k b l) }
 
-below_in_deck : (n : ℕ) (s : List ℕ) → in_deck n s ≡ true → Below n s
+pub below_in_deck : (n : ℕ) (s : List ℕ) → in_deck n s ≡ true → Below n s
 below_in_deck n [] h = tt
 below_in_deck n (c ∷ s) h = let r = in_deck-cons n c s h in (r.0, below_in_deck n s r.1)
 
 -- a hand of the deck is a set of five
 pub hand_is_set : (n : ℕ) (hand : List ℕ) → IsHand hand → in_deck n hand ≡ true → IsSet n hand
-hand_is_set n hand h d = set_from n hand (rises_from hand h.rising) (below_in_deck n hand d)
+hand_is_set n hand h d = set_from n hand (rising_from hand h.rising) (below_in_deck n hand d)
+
+pub place_below : (n c : ℕ) (s : List ℕ) → c < n → Below n s → Below n (place c s)
+unfolding place
+place_below n c [] l b = (l, tt)
+place_below n c (d ∷ s) l b = elim (nat_lt c d) as (λ v. Below n (cond v (c ∷ d ∷ s) (d ∷ place c s))) [
+  | true ↦ (l, b)
+  | false ↦ (b.0, place_below n c s l b.1)
+]
 
 pub below_more : (n m : ℕ) (s : List ℕ) → n ≤ m → Below n s → Below m s
 below_more n m [] l h = tt
 below_more n m (c ∷ s) l h = (let a : c < n = h.0 in omega arith, below_more n m s l h.1)
-
-pub above_push : (c d : ℕ) (y : List ℕ) → IsBelow c y → c < d → IsBelow c (y ++ d ∷ [])
-above_push c d [] h l = (l, tt)
-above_push c d (x ∷ y) h l = (h.0, above_push c d y h.1 l)
 
 above_pushed : (c d : ℕ) (y : List ℕ) → IsBelow c (y ++ d ∷ []) → IsBelow c y × (c < d)
 above_pushed c d [] h = (tt, h.0)
@@ -99,7 +84,7 @@ below_push n d (x ∷ y) h l = (h.0, below_push n d y h.1 l)
 
 pub rises_push : (d : ℕ) (y : List ℕ) → IsRising y → Below d y → IsRising (y ++ d ∷ [])
 rises_push d [] r b = (tt, tt)
-rises_push d (c ∷ y) r b = (above_push c d y r.0 b.0, rises_push d y r.1 b.1)
+rises_push d (c ∷ y) r b = (below_behind c d y r.0 b.0, rises_push d y r.1 b.1)
 
 -- a set of numbers up to n that has n: the others, and n behind them
 pub record Topped (n : ℕ) (s : List ℕ) : Type 0 where
@@ -133,6 +118,10 @@ top_cases n (c ∷ s) r b =
     longer t =
         let p : IsBelow c t.rest × (c < n) = above_pushed c n t.rest (subst (λ z. IsBelow c z) t.is r.0) in
         record { rest = c ∷ t.rest; is = ap (λ z. c ∷ z) t.is; rises = (p.0, t.rises); below = (p.1, t.below) }
+
+pub index_is : (s : List ℕ) → set_index s ≡ index_from 0 s
+unfolding set_index
+index_is s = refl
 
 pub index-none : (j : ℕ) → index_from j [] ≡ 0
 unfolding index_from
@@ -291,10 +280,6 @@ combos-zero (x ∷ s) = refl
 combos-none : (k : ℕ) → combos (suc k) [] ≡ []
 unfolding combos
 combos-none k = refl
-
-combos-cons : (k x : ℕ) (s : List ℕ) → combos (suc k) (x ∷ s) ≡ map (λ y. x ∷ y) (combos k s) ++ combos (suc k) s
-unfolding combos
-combos-cons k x s = refl
 
 map_append : (f : List ℕ → List ℕ) (a b : List (List ℕ)) → map f (a ++ b) ≡ map f a ++ map f b
 map_append f [] b = refl

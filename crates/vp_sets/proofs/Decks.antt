@@ -5,8 +5,10 @@ use Rattle.std.proofs.lemmas.Bool.{cases_lt}
 use Rattle.std.proofs.lemmas.Bool.Decides.{nat_tests}
 use Rattle.std.proofs.lemmas.List.Sums.{sum_by-cons, sum_by_push}
 use Rattle.vp_card.specs.Cards.{in_deck}
-use Rattle.vp_sets.specs.Sets.{deck, has, without, place, joined, times, IsBelow, IsRising}
-use Rattle.vp_sets.proofs.Rising.{times-append}
+use Rattle.vp_card.specs.Rising.{times, IsRising}
+use Rattle.vp_sets.specs.Sets.{deck, has, without}
+use Rattle.vp_card.proofs.InDeck.{in_deck-cons, in_deck-put, in_deck-append}
+use Rattle.vp_card.proofs.Rising.{times-append, below_behind}
 use Rattle.vp_sets.proofs.Sublists.{sum_by-plus}
 
 pub deck-suc : (n : ℕ) → deck (suc n) ≡ deck n ++ n ∷ []
@@ -19,35 +21,6 @@ length-deck zero = refl
 length-deck (suc n) = rw length-append (omega (arith, length-deck n))
 
 -- ---- cards below a number
-
-pub in_deck-cons : (n c : ℕ) (s : List ℕ) → in_deck n (c ∷ s) ≡ true → (c < n) × (in_deck n s ≡ true)
-in_deck-cons n c s h = (grind (arith, nat_tests), grind (arith, nat_tests))
-
-pub in_deck-put : (n c : ℕ) (s : List ℕ) → c < n → in_deck n s ≡ true → in_deck n (c ∷ s) ≡ true
-in_deck-put n c s l h = grind (arith, nat_tests)
-
-pub in_deck-append : (n : ℕ) (s t : List ℕ) → in_deck n s ≡ true → in_deck n t ≡ true → in_deck n (s ++ t) ≡ true
-in_deck-append n [] t a b = b
-in_deck-append n (c ∷ s) t a b =
-    let p : (c < n) × (in_deck n s ≡ true) = in_deck-cons n c s a in
-    in_deck-put n c (s ++ t) p.0 (in_deck-append n s t p.1 b)
-
-in_deck-place : (n c : ℕ) (s : List ℕ) → c < n → in_deck n s ≡ true → in_deck n (place c s) ≡ true
-unfolding place
-in_deck-place n c [] l h = in_deck-put n c [] l refl
-in_deck-place n c (d ∷ s) l h =
-    let p : (d < n) × (in_deck n s ≡ true) = in_deck-cons n d s h in
-    elim (nat_lt c d) as (λ v. in_deck n (if v then c ∷ d ∷ s else d ∷ place c s) ≡ true) [
-      | true ↦ in_deck-put n c (d ∷ s) l h
-      | false ↦ in_deck-put n d (place c s) p.0 (in_deck-place n c s l p.1)
-    ]
-
-pub in_deck-joined : (n : ℕ) (cards s : List ℕ) → in_deck n cards ≡ true → in_deck n s ≡ true → in_deck n (joined cards s) ≡ true
-unfolding joined
-in_deck-joined n [] s a b = b
-in_deck-joined n (c ∷ cards) s a b =
-    let p : (c < n) × (in_deck n cards ≡ true) = in_deck-cons n c cards a in
-    in_deck-place n c (joined cards s) p.0 (in_deck-joined n cards s p.1 b)
 
 -- a larger deck has the cards too
 pub in_deck_more : (m n : ℕ) (s : List ℕ) → m ≤ n → in_deck m s ≡ true → in_deck n s ≡ true
@@ -74,11 +47,7 @@ rising_push : (n : ℕ) (s : List ℕ) → in_deck n s ≡ true → IsRising s �
 rising_push n [] h r = (tt, tt)
 rising_push n (c ∷ s) h r =
     let p : (c < n) × (in_deck n s ≡ true) = in_deck-cons n c s h in
-    (below_push c n s p.0 r.0, rising_push n s p.1 r.1)
-  where
-    below_push : (c n : ℕ) (s : List ℕ) → c < n → IsBelow c s → IsBelow c (s ++ n ∷ [])
-    below_push c n [] l b = (l, tt)
-    below_push c n (d ∷ s) l b = (b.0, below_push c n s l b.1)
+    (below_behind c n s r.0 p.0, rising_push n s p.1 r.1)
 
 pub rising-deck : (n : ℕ) → IsRising (deck n)
 unfolding deck

@@ -3,9 +3,9 @@ use Rattle.std.proofs.Common.{◌≡◌, ℕ, List, [], ◌∷◌, length, get_o
 use Rattle.std.specs.List.{IsDistinct}
 use Rattle.std.specs.List.Sorted.{IsPermutation}
 use Rattle.vp_card.specs.Cards.{IsHand}
-use Rattle.vp_sets.specs.Sets.{times}
+use Rattle.vp_card.specs.Rising.{times}
 use Rattle.vp_sets.specs.Index.{IsSet}
-use Rattle.vp_sets.proofs.Rising.{rising_same, rising_from, times-IsPermutation, times-rising, distinct_from}
+use Rattle.vp_card.proofs.Rising.{rising_same, rising_from, times-IsPermutation, times-rising, distinct_from}
 use Rattle.vp_sets.proofs.Colex.{set_rises}
 
 pub five_in_row : (cards : List ℕ) → length cards ≡ 5 → cards ≡ get_or cards 0 0 ∷ get_or cards 1 0 ∷ get_or cards 2 0 ∷ get_or cards 3 0 ∷ get_or cards 4 0 ∷ []

@@ -1,12 +1,16 @@
 -- Holds of a hand, and sums over their draws.
 use Rattle.std.proofs.Common.{◌≡◌, ℕ, suc, ◌+◌, ◌-◌, ◌*◌, ◌/◌, ◌%◌, ◌<◌, ◌≤◌, true, false, cond, ◌==◌, if◌then◌else◌, List, [], ◌∷◌, ◌++◌, length, refl, subst, ap, sym, ◌∙◌, arith}
 use Rattle.std.specs.List.{sum_by}
-use Rattle.vp_card.specs.Cards.{held, in_deck, IsHand}
-use Rattle.vp_sets.specs.Sets.{deck, combos, choose, has, without, joined, times, IsRising}
+use Rattle.vp_card.specs.Cards.{held, in_deck, IsHand, joined}
+use Rattle.vp_card.specs.Rising.{times, IsRising}
+use Rattle.vp_sets.specs.Sets.{deck, combos, choose, has, without}
 use Rattle.vp_sets.specs.Draws.{discarded, draws, sum_over_draws}
-use Rattle.vp_sets.proofs.Rising.{times-append, times-rising, rising-joined, length-joined, joined_in_order, rising_from}
+use Rattle.vp_card.proofs.Rising.{times-append, times-rising, rising-joined, length-joined, joined_in_order, rising_from}
 use Rattle.vp_sets.proofs.Sublists.{Sub, nothing, take, skip, sub_rising, sub_times, sub-filter, length-combos, sum_combos_agree, sum_combos_le}
-use Rattle.vp_sets.proofs.Decks.{in_deck-cons, in_deck-put, in_deck-joined, in_deck-deck, rising-deck, has-none, times-without, length-without}
+use Rattle.vp_sets.specs.Index.{IsSet}
+use Rattle.vp_sets.proofs.Colex.{below_in_deck, set_from}
+use Rattle.vp_card.proofs.InDeck.{in_deck-cons, in_deck-put, in_deck-joined}
+use Rattle.vp_sets.proofs.Decks.{in_deck-deck, rising-deck, has-none, times-without, length-without}
 
 pub sub_in_deck : (n : ℕ) {y s : List ℕ} → Sub y s → in_deck n s ≡ true → in_deck n y ≡ true
 sub_in_deck n nothing h = refl
@@ -64,6 +68,10 @@ pub record Dealt (n : ℕ) (hand : List ℕ) : Type 0 where
 
 pub dealt_from : (n : ℕ) (hand : List ℕ) → IsHand hand → in_deck n hand ≡ true → Dealt n hand
 dealt_from n hand h d = record { rising = rising_from hand h.rising; of_deck = d; five = h.five }
+
+-- a hand that was dealt is a set
+pub dealt_is_set : (n : ℕ) (hand : List ℕ) → Dealt n hand → IsSet n hand
+dealt_is_set n hand d = set_from n hand d.rising (below_in_deck n hand d.of_deck)
 
 -- five cards less than the deck are left
 pub length_left : (n : ℕ) (hand : List ℕ) → Dealt n hand → length (without (deck n) hand) + 5 ≡ n

@@ -1,6 +1,5 @@
 pub mod Binomials
 pub mod Denominators
-pub mod Rising
 pub mod Sublists
 pub mod Decks
 pub mod Holds

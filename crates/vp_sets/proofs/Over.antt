@@ -3,7 +3,8 @@ use Rattle.std.proofs.Common.{◌≡◌, ℕ, zero, suc, ◌+◌, refl, ap, sym,
 use Rattle.std.specs.List.{sum_by}
 use Rattle.std.proofs.lemmas.List.Sums.{sum_by-append, sum_by-cons}
 use Rattle.std.proofs.lemmas.Bool.{or_parts, or_from}
-use Rattle.vp_sets.specs.Sets.{IsBelow, IsRising, combos, has}
+use Rattle.vp_card.specs.Rising.{IsBelow, IsRising}
+use Rattle.vp_sets.specs.Sets.{combos, has}
 
 -- the members other than c
 unfoldable pub less : ℕ → List ℕ → List ℕ

@@ -1,7 +1,8 @@
--- The table of choices has Pascal's numbers.
-use Rattle.std.proofs.Common.{◌≡◌, ℕ, zero, suc, ◌+◌, ◌<◌, ◌≤◌, refl, ap, sym, ◌∙◌, arith, List, [], ◌∷◌, length, get_or, take, drop, map}
+-- The table of choices has Pascal's numbers, and among them those of draws.
+use Rattle.std.proofs.Common.{◌≡◌, ℕ, zero, suc, ◌+◌, ◌-◌, ◌<◌, ◌≤◌, refl, ap, sym, ◌∙◌, arith, List, [], ◌∷◌, length, get_or, take, drop, map}
 use Rattle.std.proofs.lemmas.List.{get_or-map, get_or-take, get_or-drop}
 use Rattle.vp_sets.specs.Sets.{choose}
+use Rattle.vp_sets.specs.Draws.{draw_counts}
 use Rattle.vp_sets.specs.declared.ways.TheConstants.{WAYS}
 
 -- the row behind a row
@@ -52,3 +53,12 @@ column n (suc (suc (suc (suc (suc (suc k)))))) l = absurd (omega arith)
 -- the entry for n things of which k are chosen
 pub ways_are : (n k : ℕ) → n ≤ 54 → k ≤ 5 → get_or (get_or WAYS n []) k 0 ≡ choose n k
 ways_are n k l m = ap (λ r. get_or r k 0) (row_is n l) ∙ column n k m
+
+-- the numbers of draws stand in the row of the cards that were not dealt
+pub draw_counts_are : (n : ℕ) → n ≤ 53 → draw_counts n ≡ get_or WAYS (n - 5) []
+unfolding draw_counts row
+draw_counts_are n l = sym (row_is (n - 5) (omega arith))
+
+pub draw_count_at : (n k : ℕ) → k ≤ 5 → get_or (draw_counts n) k 0 ≡ choose (n - 5) k
+unfolding draw_counts row
+draw_count_at n k l = column (n - 5) k l

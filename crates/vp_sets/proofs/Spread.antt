@@ -1,7 +1,10 @@
 -- One member singled out of the sublists of a list, and the sum over the draws of a hold.
-use Rattle.std.proofs.Common.{◌≡◌, ◌⊎◌, inl, inr, ℕ, zero, suc, ◌+◌, ◌<◌, ◌≤◌, refl, ap, sym, ◌∙◌, arith, Bool, true, false, cond, not, ◌||◌, ◌==◌, nat_lt, List, [], ◌∷◌}
-use Rattle.std.proofs.lemmas.Bool.{cases_eq, cases_Bool, eq-eqb, ne_eqb, or_parts, or_left, lt-ltb, le-ltb, cond-true, cond-false, false≢true}
-use Rattle.vp_sets.specs.Sets.{IsBelow, IsRising, has, place}
+use Rattle.std.proofs.Common.{◌≡◌, ◌⊎◌, inl, inr, ℕ, zero, suc, ◌+◌, ◌<◌, refl, ap, sym, ◌∙◌, arith, Bool, true, false, cond, not, ◌||◌, ◌==◌, List, [], ◌∷◌}
+use Rattle.std.proofs.lemmas.Bool.{cases_eq, cases_Bool, eq-eqb, ne_eqb, or_parts, or_left, cond-true, cond-false, false≢true}
+use Rattle.vp_card.specs.Cards.{place}
+use Rattle.vp_card.specs.Rising.{IsBelow, IsRising}
+use Rattle.vp_card.proofs.Rising.{place-later, place-first}
+use Rattle.vp_sets.specs.Sets.{has}
 use Rattle.vp_sets.proofs.Over.{less, over, over-zero, over-none, over-cons, over_agree, over_none, over-plus}
 
 eq_same : (c : ℕ) → (c == c) ≡ true
@@ -27,23 +30,6 @@ has-cons d s c = refl
 pub above_absent : (c : ℕ) (s : List ℕ) → IsBelow c s → has s c ≡ false
 above_absent c [] h = has-none c
 above_absent c (d ∷ s) h = has-later d s c (λ e. let k : c < d = h.0 in omega arith) ∙ above_absent c s h.1
-
-pub place-first : (c : ℕ) (s : List ℕ) → IsBelow c s → place c s ≡ c ∷ s
-unfolding place
-place-first c [] h = refl
-place-first c (d ∷ s) h = cond-true (nat_lt c d) (c ∷ d ∷ s) (d ∷ place c s) (lt-ltb c d h.0)
-
-pub place-later : (c d : ℕ) (s : List ℕ) → d ≤ c → place c (d ∷ s) ≡ d ∷ place c s
-unfolding place
-place-later c d s h = cond-false (nat_lt c d) (c ∷ d ∷ s) (d ∷ place c s) (le-ltb c d h)
-
-pub place-none : (c : ℕ) → place c [] ≡ c ∷ []
-unfolding place
-place-none c = refl
-
-pub place-here : (c d : ℕ) (s : List ℕ) → c < d → place c (d ∷ s) ≡ c ∷ d ∷ s
-unfolding place
-place-here c d s h = cond-true (nat_lt c d) (c ∷ d ∷ s) (d ∷ place c s) (lt-ltb c d h)
 
 pub less-none : (c : ℕ) → less c [] ≡ []
 unfolding less

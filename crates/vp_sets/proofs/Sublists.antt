@@ -3,7 +3,8 @@ use Rattle.std.proofs.Common.{◌≡◌, ℕ, zero, suc, ◌+◌, ◌*◌, ◌<�
 use Rattle.std.specs.List.{sum_by}
 use Rattle.std.proofs.lemmas.List.{length-map}
 use Rattle.std.proofs.lemmas.List.Sums.{sum_by-cons, sum_by-append}
-use Rattle.vp_sets.specs.Sets.{combos, choose, times, IsBelow, IsRising}
+use Rattle.vp_card.specs.Rising.{times, IsBelow, IsRising}
+use Rattle.vp_sets.specs.Sets.{combos, choose}
 use Rattle.vp_sets.proofs.Binomials.{choose-zero, choose-none, choose-suc}
 
 -- y is made of some members of s, in their order

@@ -5,10 +5,12 @@ use Rattle.std.proofs.Math.Nat.{le_trans}
 use Rattle.std.proofs.Math.Seq.{take-suc}
 use Rattle.std.proofs.lemmas.List.{length-take-le, take-append-drop, get_or-drop, drop-set}
 use Rattle.std.proofs.lemmas.Bool.{cases_lt}
-use Rattle.vp_sets.specs.Sets.{IsBelow, IsRising, choose}
+use Rattle.vp_card.specs.Rising.{IsBelow, IsRising}
+use Rattle.vp_sets.specs.Sets.{choose}
 use Rattle.vp_sets.specs.Index.{IsSet, HasIndex, index_from, set_index}
 use Rattle.vp_sets.proofs.Binomials.{choose-zero, choose-none, choose-suc, choose-few, choose_small}
-use Rattle.vp_sets.proofs.Colex.{Below, below_from, below_at, rises_from, rises_at, set_rises, set_below, set_from, index-none, index-cons, index-append, index-push, index_lt}
+use Rattle.vp_card.proofs.Rising.{rising_from}
+use Rattle.vp_sets.proofs.Colex.{Below, below_from, below_at, rises_at, set_rises, set_below, set_from, index-none, index-cons, index-append, index-push, index_lt}
 
 pub above_take : (c i : ℕ) (s : List ℕ) → IsBelow c s → IsBelow c (take i s)
 above_take c zero [] h = tt
@@ -165,7 +167,7 @@ raised_has_index n s p t h f r =
     let g : IsRising s = set_rises n s h in
     let b : Below n s = set_below n s h in
     record {
-      is_set = set_from n t (rises_from t (increasing_by t (raised_step n s p t g f r))) (below_from n t (raised_below n s p t g b f r));
+      is_set = set_from n t (rising_from t (increasing_by t (raised_step n s p t g f r))) (below_from n t (raised_below n s p t g b f r));
       many = r.same;
       index = raised_index n s p t f r;
     }

@@ -1,8 +1,8 @@
 -- Holds of a hand, and sums over all draws.
 use Rattle.std.specs.Prelude.{ℕ, zero, suc, ◌-◌, ◌*◌, ◌/◌, ◌%◌, Bool, if◌then◌else◌, ◌==◌, List, [], ◌∷◌, length, map, fold, sum_by}
 use Rattle.std.specs.List.{list_all}
-use Rattle.vp_card.specs.Cards.{held}
-use Rattle.vp_sets.specs.Sets.{deck, combos, choose, without, joined}
+use Rattle.vp_card.specs.Cards.{held, joined}
+use Rattle.vp_sets.specs.Sets.{deck, combos, choose, without}
 
 -- the cards at the places whose bit isn't set in the mask, the first place having the lowest bit
 unfoldable pub discarded : ℕ → List ℕ → List ℕ

@@ -1,5 +1,5 @@
--- Sublists, their number, and sets of cards as rising lists.
-use Rattle.std.specs.Prelude.{ℕ, zero, suc, ◌+◌, ◌<◌, Bool, if◌then◌else◌, not, nat_lt, ◌==◌, List, [], ◌∷◌, ◌++◌, map, filter}
+-- Decks, sublists and their number, and what is in a set.
+use Rattle.std.specs.Prelude.{ℕ, zero, suc, ◌+◌, Bool, not, ◌==◌, List, [], ◌∷◌, ◌++◌, map, filter}
 use Rattle.std.specs.List.{list_any}
 
 -- the numbers below n, rising: the cards of a deck of n
@@ -26,28 +26,3 @@ has s c = list_any (λ d. d == c) s
 -- the members of s that are not in t
 unfoldable pub without : List ℕ → List ℕ → List ℕ
 without s t = filter (λ c. not (has t c)) s
-
--- a card put into a rising list at its place
-unfoldable pub place : ℕ → List ℕ → List ℕ
-place c [] = c ∷ []
-place c (d ∷ s) = if nat_lt c d then c ∷ d ∷ s else d ∷ place c s
-
--- cards put one by one into a rising list
-unfoldable pub joined : List ℕ → List ℕ → List ℕ
-joined [] s = s
-joined (c ∷ cs) s = place c (joined cs s)
-
--- how often a card stands in a list
-abbrev pub times : ℕ → List ℕ → ℕ
-times c [] = 0
-times c (d ∷ s) = (if d == c then 1 else 0) + times c s
-
--- a card is below every card of a list
-abbrev pub IsBelow : ℕ → List ℕ → Type 0
-IsBelow c [] = Unit {0}
-IsBelow c (d ∷ s) = (c < d) × IsBelow c s
-
--- each card is below all later ones
-abbrev pub IsRising : List ℕ → Type 0
-IsRising [] = Unit {0}
-IsRising (c ∷ s) = IsBelow c s × IsRising s

@@ -27,6 +27,7 @@ pub fn choose(n: u8, k: u8) -> u64
 pub fn common(n: u8) -> u64
     requires { (n ≡ 52) ⊎ (n ≡ 53) }
     ensures value { result ≡ common n }
+    ensures some { 0 < result }
     // The number of draws of any hold divides it.
     ensures divided { (k : ℕ) → k ≤ 5 → result % choose (n - 5) k ≡ 0 }
     // No smaller number is divided by them all.
