@@ -2,7 +2,8 @@
 use Rattle.std.proofs.Common.{◌≡◌, ℕ, List, [], ◌∷◌, ◌++◌, Result, Ok, Err, ◌⊎◌, inl, inr, refl, sym, ap, subst, ◌∙◌, append_assoc}
 use Rattle.std.proofs.lemmas.List.{append-nil}
 use Rattle.vp_text.specs.Lines.{Word, WordLine, Feed}
-use Rattle.vp_text.specs.Sections.{Text, Reader, text_of, last_of, Starts, Begins, Lacks, Refuses, Exact, both_text, AreBoth, Seen}
+use Rattle.vp_text.specs.Sections.{Text, text_of, last_of, Starts, Begins, Lacks, Refuses, both_text, AreBoth}
+use Rattle.vp_text.specs.ExactReaders.{Reader, Exact, Seen}
 use Rattle.vp_text.specs.Reading.{◌>>=◌, both, mapped}
 use Rattle.vp_text.proofs.Spelled.{bind_ok, bind_err, ok_is, ok_err, append_cases, text_of-append, last_of-append, parts}
 use Rattle.vp_text.proofs.Sections.{spelling_unique, no_shorter}
@@ -95,6 +96,21 @@ begins_first {A = A} {B = B} {spell = spell} {Valid = Valid} spell2 Valid2 exact
           spelled = is ∙ ap (λ (x : List Word). text ++ x ∷ m) same ∙ sym (append_assoc text (line ∷ []) m);
         }
 
+-- Where a section is refused so is another, if what is wanted of the first is wanted of the other, and a line that breaks the first breaks the other.
+refused_as : {A B : Type 0} (spell : A → Text) (Valid : A → Type 0) (spell2 : B → Text) (Valid2 : B → Type 0) → ((text : Text) → Lacks spell Valid text → Lacks spell2 Valid2 text)
+    → ((text : Text) (line : List Word) → Lacks spell Valid text → Begins spell2 Valid2 (text ++ line ∷ []) → Begins spell Valid (text ++ line ∷ []))
+    → (feed : Feed) (refused : ℕ) → Refuses spell Valid feed refused → Refuses spell2 Valid2 feed refused
+refused_as spell Valid spell2 Valid2 wants breaks feed refused (inl b) = inl (record {
+  front = b.front;
+  line = b.line;
+  rest = b.rest;
+  lines = b.lines;
+  number = b.number;
+  wanted = wants (text_of b.front) b.wanted;
+  broken = λ begins. b.broken (breaks (text_of b.front) b.line.words b.wanted begins);
+})
+refused_as spell Valid spell2 Valid2 wants breaks feed refused (inr n) = inr (record { number = n.number; wanted = wants (text_of feed.lines) n.wanted })
+
 -- ---- both
 
 pub Exact-both : {A B : Type 0} (spell : A → Text) (Valid : A → Type 0) (first : Reader A) (spell2 : A → B → Text) (Valid2 : A → B → Type 0) (second : A → Reader B)
@@ -131,16 +147,9 @@ Exact-both {A = A} {B = B} spell Valid first spell2 Valid2 second exact1 exact2 
         ap (λ (r : Result (A × Feed) ℕ). r >>= λ a. second a.0 a.1 >>= paired a.0) one ∙ ap (λ (r : Result (B × Feed) ℕ). r >>= paired value.0) two
 
     stops_first : (feed : Feed) (refused : ℕ) → Refuses spell Valid feed refused → Refuses (both_text spell spell2) (AreBoth Valid Valid2) feed refused
-    stops_first feed refused (inl b) = inl (record {
-      front = b.front;
-      line = b.line;
-      rest = b.rest;
-      lines = b.lines;
-      number = b.number;
-      wanted = lacks_first spell Valid spell2 Valid2 (text_of b.front) goes_on b.wanted;
-      broken = λ begins. b.broken (begins_first spell2 Valid2 exact1 (text_of b.front) b.line.words b.wanted begins);
-    })
-    stops_first feed refused (inr n) = inr (record { number = n.number; wanted = lacks_first spell Valid spell2 Valid2 (text_of feed.lines) goes_on n.wanted })
+    stops_first =
+        refused_as spell Valid (both_text spell spell2) (AreBoth Valid Valid2) (λ text wanted. lacks_first spell Valid spell2 Valid2 text goes_on wanted)
+        (λ text line wanted begins. begins_first spell2 Valid2 exact1 text line wanted begins)
 
     begins_second : (a : A) (front text : Text) → Valid a → front ≡ spell a → Begins (both_text spell spell2) (AreBoth Valid Valid2) (front ++ text) → Begins (spell2 a) (Valid2 a) text
     begins_second a front text valid is begins =
@@ -233,16 +242,9 @@ Exact-mapped {A = A} {B = B} spell Valid read spell2 Valid2 see back exact seen 
         ap (λ (r : Result (A × Feed) ℕ). r >>= put) one ∙ ap (λ (b : B). as_ok b left) (seen.see_of value valid)
 
     refuses_seen : (feed : Feed) (refused : ℕ) → Refuses spell Valid feed refused → Refuses spell2 Valid2 feed refused
-    refuses_seen feed refused (inl b) = inl (record {
-      front = b.front;
-      line = b.line;
-      rest = b.rest;
-      lines = b.lines;
-      number = b.number;
-      wanted = lacks_seen spell Valid spell2 Valid2 see back seen (text_of b.front) b.wanted;
-      broken = λ begins. b.broken (begins_seen spell Valid spell2 Valid2 see back seen (text_of b.front ++ b.line.words ∷ []) begins);
-    })
-    refuses_seen feed refused (inr n) = inr (record { number = n.number; wanted = lacks_seen spell Valid spell2 Valid2 see back seen (text_of feed.lines) n.wanted })
+    refuses_seen =
+        refused_as spell Valid spell2 Valid2 (λ text wanted. lacks_seen spell Valid spell2 Valid2 see back seen text wanted)
+        (λ text line wanted begins. begins_seen spell Valid spell2 Valid2 see back seen (text ++ line ∷ []) begins)
 
     mapped_stops : (feed : Feed) (refused : ℕ) → ((read feed ≡ Err refused) ⊎ ((a : A × Feed) × (read feed ≡ Ok a) × (put a ≡ Err refused))) → Refuses spell2 Valid2 feed refused
     mapped_stops feed refused (inl e) = refuses_seen feed refused (exact.stops feed refused e)

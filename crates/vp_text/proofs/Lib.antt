@@ -6,8 +6,9 @@ pub mod Rows
 pub mod Whole
 pub mod Writing
 pub mod Room
-pub mod Given
 pub mod Pieces
 pub mod Numbers
 pub mod WithWords
 pub mod Standing
+pub mod Follows
+pub mod PlainWords

@@ -10,9 +10,9 @@ use Rattle.std.proofs.lemmas.Str.{digit_value_digit}
 use Rattle.std.proofs.lemmas.Bool.{ltb-true, lt-ltb}
 use Rattle.std.proofs.lemmas.Bool.Decides.{nat_tests}
 use Rattle.std.proofs.lemmas.Slice.Eq.{bytes_eq-Decides}
+use Rattle.vp_text.specs.ExactReaders.{ExactText}
 use Rattle.vp_text.specs.Lines.{Word}
 use Rattle.vp_text.specs.Numbers.{digits_number, number_of, within, number_within}
-use Rattle.vp_text.specs.Pieces.{ExactWord}
 use Rattle.vp_text.proofs.Pieces.{both_true, bound, chosen, no_value, same_bytes, so}
 
 digit_back : (d : ℕ) → d < 10 → digit_value (48 + d) ≡ d
@@ -50,7 +50,7 @@ number_takes text n read =
     (λ none. absurd (no_value n none))
 
 -- the word of a number below 2^64 is its decimal digits
-pub number_exact : ExactWord decimal (λ n. n < 2 ^ 64) number_of
+pub number_exact : ExactText decimal (λ n. n < 2 ^ 64) number_of
 number_exact = record { takes = λ text n read. number_takes text n read; again = λ n below. number_again n below }
 
 -- a text that is a number's digits
@@ -83,7 +83,7 @@ within_some least most n low high =
     in rw (one, two)
 
 -- the word of a number from `least` to `most` is its decimal digits
-pub number_within_exact : (least most : ℕ) → most < 2 ^ 64 → ExactWord decimal (λ n. (least ≤ n) × (n ≤ most)) (number_within least most)
+pub number_within_exact : (least most : ℕ) → most < 2 ^ 64 → ExactText decimal (λ n. (least ≤ n) × (n ≤ most)) (number_within least most)
 unfolding number_within
 number_within_exact least most below = record {
   takes = λ text n read.

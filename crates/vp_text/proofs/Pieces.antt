@@ -2,9 +2,9 @@
 use Rattle.std.proofs.Common.{◌≡◌, ℕ, zero, suc, map, length, arith, Bool, true, false, cond, ◌&&◌, List, [], ◌∷◌, ◌++◌, refl, ap, sym, ◌∙◌, Some, None, subst}
 use Rattle.std.specs.Prelude.{Option, option_map, bytes_eq}
 use Rattle.std.proofs.lemmas.Slice.Eq.{bytes_eq-Decides}
+use Rattle.vp_text.specs.ExactReaders.{ExactText}
 use Rattle.vp_text.specs.Lines.{Word}
-use Rattle.vp_text.specs.Sections.{ExactLine}
-use Rattle.vp_text.specs.Pieces.{Piece, ◌>>=◌, ExactWord, ExactPiece, AreMany, one_word, so_many, key_word, ended, keyed}
+use Rattle.vp_text.specs.Pieces.{Piece, ◌>>=◌, ExactPiece, AreMany, one_word, so_many, key_word, ended, keyed}
 
 pub record Bound {A B : Type 0} (o : Option A) (f : A → Option B) (y : B) : Type 0 where
   pub value : A
@@ -61,7 +61,7 @@ pub took : {A : Type 0} {spell : A → List Word} {Valid : A → Type 0} {May : 
     → (words : List Word) (taken : A × List Word) → read words ≡ Some taken → Took spell Valid words taken.0 taken.1
 took exact words taken e = let t = exact.takes words taken.1 taken.0 e in record { valid = t.0; front = t.1 }
 
-pub Exact-one_word : {A : Type 0} {word : A → Word} {Valid : A → Type 0} {read : Word → Option A} → ExactWord word Valid read
+pub Exact-one_word : {A : Type 0} {word : A → Word} {Valid : A → Type 0} {read : Word → Option A} → ExactText word Valid read
     → ExactPiece (λ a. word a ∷ []) Valid (λ rest. true) (one_word read)
 Exact-one_word {A = A} {word = word} {Valid = Valid} {read = read} exact = record {
   takes = taken;
@@ -78,7 +78,7 @@ Exact-one_word {A = A} {word = word} {Valid = Valid} {read = read} exact = recor
   taken [] rest value e = absurd cc
   taken (text ∷ words) rest value e = mapped (read text) text words rest value refl e
 
-many_taken : {A : Type 0} {word : A → Word} {Valid : A → Type 0} {read : Word → Option A} → ExactWord word Valid read
+many_taken : {A : Type 0} {word : A → Word} {Valid : A → Type 0} {read : Word → Option A} → ExactText word Valid read
     → (n : ℕ) (words rest : List Word) (values : List A) → so_many read n words ≡ Some (values, rest) → AreMany Valid n values × (words ≡ map word values ++ rest)
 many_taken {A} {word} {Valid} exact zero words rest values e =
     so (λ (t : List A × List Word). AreMany Valid 0 t.0 × (words ≡ map word t.0 ++ t.1)) ([], words) (values, rest) e (record { count = refl; all = tt }, refl)
@@ -90,7 +90,7 @@ many_taken {A} {word} {Valid} exact (suc n) words rest values e =
     in so (λ (t : List A × List Word). AreMany Valid (suc n) t.0 × (words ≡ map word t.0 ++ t.1)) (value.value.0 ∷ more.value.0, more.value.1) (values, rest) more.then
     (record { count = ap suc m.0.count; all = (v.valid, m.0.all) }, v.front ∙ ap (λ (ws : List Word). word value.value.0 ∷ ws) m.1)
 
-many_again : {A : Type 0} {word : A → Word} {Valid : A → Type 0} {read : Word → Option A} → ExactWord word Valid read
+many_again : {A : Type 0} {word : A → Word} {Valid : A → Type 0} {read : Word → Option A} → ExactText word Valid read
     → (n : ℕ) (rest : List Word) (values : List A) → AreMany Valid n values → so_many read n (map word values ++ rest) ≡ Some (values, rest)
 many_again exact zero rest [] is = refl
 many_again exact zero rest (value ∷ values) is = absurd (omega (arith, is.count))
@@ -99,7 +99,7 @@ many_again exact (suc n) rest (value ∷ values) is =
     let count : length values ≡ n = omega (arith, is.count)
     in rw (exact.again value is.all.0, many_again exact n rest values (record { count = count; all = is.all.1 }))
 
-pub Exact-so_many : {A : Type 0} {word : A → Word} {Valid : A → Type 0} {read : Word → Option A} → ExactWord word Valid read
+pub Exact-so_many : {A : Type 0} {word : A → Word} {Valid : A → Type 0} {read : Word → Option A} → ExactText word Valid read
     → (n : ℕ) → ExactPiece (map word) (AreMany Valid n) (λ rest. true) (so_many read n)
 Exact-so_many exact n = record {
   takes = λ words rest values e. many_taken exact n words rest values e;
@@ -126,8 +126,8 @@ at_end [] x y e = (refl, cc)
 at_end (word ∷ words) x y e = absurd cc
 
 -- a line of two words
-pub Exact-keyed : {A : Type 0} (key : Word) {word : A → Word} {Valid : A → Type 0} {read : Word → Option A} → ExactWord word Valid read
-    → ExactLine (λ a. key ∷ word a ∷ []) Valid (keyed key read)
+pub Exact-keyed : {A : Type 0} (key : Word) {word : A → Word} {Valid : A → Type 0} {read : Word → Option A} → ExactText word Valid read
+    → ExactText (λ a. key ∷ word a ∷ []) Valid (keyed key read)
 Exact-keyed {A = A} key {word = word} {Valid = Valid} {read = read} exact = record {
   takes = taken;
   again = λ value valid. rw (same_bytes key, exact.again value valid);

@@ -2,9 +2,10 @@
 use Rattle.std.proofs.Common.{◌≡◌, ℕ, Bool, true, false, cond, List, [], ◌∷◌, ◌++◌, map, Option, Some, None, option_map, Result, Ok, Err, ◌⊎◌, inl, inr, refl, sym, ap, subst, ◌∙◌, append_assoc}
 use Rattle.std.proofs.lemmas.List.{append-nil, map-append}
 use Rattle.std.proofs.lemmas.Slice.Eq.{bytes_eq-Decides}
-use Rattle.vp_text.specs.Lines.{Word, WordLine, Feed, behind, only_is}
-use Rattle.vp_text.specs.Sections.{Text, text_of, last_of, Starts, Begins, Lacks, Refuses, Exact, ExactLine, Keeps, on_item, Finish, rows_text, AreRows, item_or, allows_or, closed_text, AreClosed, Closes}
-use Rattle.vp_text.specs.Reading.{by_row, rows_at, rows, closed_by, closed}
+use Rattle.vp_text.specs.Lines.{Word, WordLine, Feed}
+use Rattle.vp_text.specs.Reading.{behind, only_is, by_row, rows_at, rows, closed_by, closed}
+use Rattle.vp_text.specs.Sections.{Text, text_of, last_of, Starts, Begins, Lacks, Refuses}
+use Rattle.vp_text.specs.ExactReaders.{Exact, Keeps, on_item, Finish, rows_text, AreRows, item_or, allows_or, closed_text, AreClosed, Closes, ExactText}
 use Rattle.vp_text.proofs.Spelled.{ok_is, err_is, tail_is, head_is, cons_is}
 use Rattle.vp_text.proofs.Sections.{feed_is}
 use Rattle.vp_text.proofs.Joined.{Exact-mapped}
@@ -23,7 +24,7 @@ some_is x y e = cc
 
 -- what all lemmas here are about
 pub record Grammar {I Z : Type 0} (line : I ⊎ Z → List Word) (Rule : List I → I ⊎ Z → Type 0) (row_of : List I → List Word → Option (I ⊎ Z)) : Type 0 where
-  pub exact : (front : List I) → ExactLine line (Rule front) (row_of front)
+  pub exact : (front : List I) → ExactText line (Rule front) (row_of front)
 
 abbrev items_text : {I Z : Type 0} → (I ⊎ Z → List Word) → List I → Text
 items_text line items = map (λ i. line (inl i)) items
@@ -245,7 +246,7 @@ rows_read {I = I} {Z = Z} line Rule row_of grammar (j ∷ more) (i ∷ others) i
 -- ---- all of it
 
 pub Exact-rows : {I Z : Type 0} (line : I ⊎ Z → List Word) (Rule : List I → I ⊎ Z → Type 0) (row_of : List I → List Word → Option (I ⊎ Z))
-    → ((front : List I) → ExactLine line (Rule front) (row_of front)) → ((front : List I) → Keeps (on_item Rule) [] front → Finish Rule front)
+    → ((front : List I) → ExactText line (Rule front) (row_of front)) → ((front : List I) → Keeps (on_item Rule) [] front → Finish Rule front)
     → Exact (rows_text line) (AreRows Rule) (rows row_of)
 Exact-rows {I = I} {Z = Z} line Rule row_of exact finish = record {
   some = ((finish [] tt).more, (finish [] tt).close);
@@ -304,7 +305,7 @@ not_only true word words e other = absurd (other (sym (only_word word words e)))
 not_only false word words e other = refl
 
 closed_takes : {I : Type 0} (word : Word) (may_close : List I → Bool) (line : I → List Word) (Allows : List I → I → Type 0) (item_of : List I → List Word → Option I) (front : List I)
-    → ExactLine line (Allows front) (item_of front) → (words : List Word) (value : I ⊎ Unit {0}) → closed_by word may_close item_of front words ≡ Some value
+    → ExactText line (Allows front) (item_of front) → (words : List Word) (value : I ⊎ Unit {0}) → closed_by word may_close item_of front words ≡ Some value
     → allows_or may_close Allows front value × (item_or word line value ≡ words)
 closed_takes {I = I} word may_close line Allows item_of front exact words value e = by_word (only_is word words) refl e
   where
@@ -321,7 +322,7 @@ closed_takes {I = I} word may_close line Allows item_of front exact words value 
     by_word false is h = an_item (item_of front words) refl h
 
 closed_again : {I : Type 0} (word : Word) (may_close : List I → Bool) (line : I → List Word) (Allows : List I → I → Type 0) (item_of : List I → List Word → Option I) (front : List I)
-    → ExactLine line (Allows front) (item_of front) → ((i : I) → Allows front i → line i ≡ word ∷ [] → ⊥)
+    → ExactText line (Allows front) (item_of front) → ((i : I) → Allows front i → line i ≡ word ∷ [] → ⊥)
     → (value : I ⊎ Unit {0}) → allows_or may_close Allows front value → closed_by word may_close item_of front (item_or word line value) ≡ Some value
 closed_again {I = I} word may_close line Allows item_of front exact apart (inl i) valid =
     let other : only_is word (line i) ≡ false = not_only (only_is word (line i)) word (line i) refl (apart i valid) in
@@ -332,15 +333,15 @@ closed_again {I = I} word may_close line Allows item_of front exact apart (inr z
     ∙ ap (λ (b : Bool). cond b (Some (as_close tt)) None) valid
 
 Exact-closing : {I : Type 0} (word : Word) (may_close : List I → Bool) (line : I → List Word) (Allows : List I → I → Type 0) (item_of : List I → List Word → Option I)
-    → ((front : List I) → ExactLine line (Allows front) (item_of front)) → ((front : List I) (i : I) → Allows front i → line i ≡ word ∷ [] → ⊥)
-    → (front : List I) → ExactLine (item_or word line) (allows_or may_close Allows front) (closed_by word may_close item_of front)
+    → ((front : List I) → ExactText line (Allows front) (item_of front)) → ((front : List I) (i : I) → Allows front i → line i ≡ word ∷ [] → ⊥)
+    → (front : List I) → ExactText (item_or word line) (allows_or may_close Allows front) (closed_by word may_close item_of front)
 Exact-closing word may_close line Allows item_of exact apart front = record {
   takes = λ words value e. closed_takes word may_close line Allows item_of front (exact front) words value e;
   again = λ value valid. closed_again word may_close line Allows item_of front (exact front) (apart front) value valid;
 }
 
 pub Exact-closed : {I : Type 0} (word : Word) (may_close : List I → Bool) (line : I → List Word) (Allows : List I → I → Type 0) (item_of : List I → List Word → Option I)
-    → ((front : List I) → ExactLine line (Allows front) (item_of front)) → ((front : List I) (i : I) → Allows front i → line i ≡ word ∷ [] → ⊥)
+    → ((front : List I) → ExactText line (Allows front) (item_of front)) → ((front : List I) (i : I) → Allows front i → line i ≡ word ∷ [] → ⊥)
     → ((front : List I) → Keeps Allows [] front → Closes may_close Allows front)
     → Exact (closed_text word line) (AreClosed may_close Allows) (closed word may_close item_of)
 Exact-closed {I = I} word may_close line Allows item_of exact apart closes =

@@ -1,9 +1,10 @@
 -- Exact readers: what follows for spellings, and the parts from which readers are put together are exact.
 use Rattle.std.proofs.Common.{◌≡◌, ℕ, List, [], ◌∷◌, ◌++◌, Option, Some, None, Result, Ok, Err, inl, inr, refl, sym, ap, subst, ◌∙◌}
 use Rattle.std.proofs.lemmas.List.{append-nil}
-use Rattle.vp_text.specs.Lines.{Word, WordLine, Feed, behind}
-use Rattle.vp_text.specs.Sections.{Text, Reader, text_of, last_of, Starts, Begins, Lacks, Refuses, Exact, ExactLine}
-use Rattle.vp_text.specs.Reading.{line_or, line_at, one_line, nothing}
+use Rattle.vp_text.specs.Lines.{Word, WordLine, Feed}
+use Rattle.vp_text.specs.Reading.{behind, line_or, line_at, one_line, nothing}
+use Rattle.vp_text.specs.Sections.{Text, text_of, last_of, Starts, Begins, Lacks, Refuses}
+use Rattle.vp_text.specs.ExactReaders.{Reader, Exact, ExactText}
 use Rattle.vp_text.proofs.Spelled.{ok_is, err_is, ok_err, tail_is, head_is, cons_is, lines_for, text_of-lines_for, lines_for-append, last_of-lines_for, feed_for}
 
 abbrev ok_pair : {A : Type 0} → A → Feed → Result (A × Feed) ℕ
@@ -53,7 +54,7 @@ begins_lacks lacks = record { value = lacks.value; valid = lacks.valid; more = l
 
 -- ---- one line
 
-line_takes : {A : Type 0} (line : A → List Word) (Valid : A → Type 0) (value_of : List Word → Option A) → ExactLine line Valid value_of
+line_takes : {A : Type 0} (line : A → List Word) (Valid : A → Type 0) (value_of : List Word → Option A) → ExactText line Valid value_of
     → (lines : List WordLine) (past last : ℕ) (left : Feed) (value : A) → line_at value_of lines past ≡ Ok (value, left)
     → Valid value × Starts (λ a. line a ∷ []) (record { lines = lines; past = past; last = last }) value left
 line_takes line Valid value_of exact [] past last left value e = absurd cc
@@ -77,7 +78,7 @@ feed_is left past last p q =
 ok_as : {A : Type 0} (value : A) (f g : Feed) → f ≡ g → ok_pair value f ≡ ok_pair value g
 ok_as value f g e = ap (λ (x : Feed). ok_pair value x) e
 
-line_again : {A : Type 0} (line : A → List Word) (Valid : A → Type 0) (value_of : List Word → Option A) → ExactLine line Valid value_of
+line_again : {A : Type 0} (line : A → List Word) (Valid : A → Type 0) (value_of : List Word → Option A) → ExactText line Valid value_of
     → (before left : Feed) (value : A) (front : List WordLine) → Valid value → before.lines ≡ front ++ left.lines → text_of front ≡ line value ∷ []
     → left.past ≡ before.past → left.last ≡ last_of front before.last → line_at value_of before.lines before.past ≡ Ok (value, left)
 line_again line Valid value_of exact before left value [] valid lines spelled past last = absurd cc
@@ -89,7 +90,7 @@ line_again line Valid value_of exact before left value (l ∷ []) valid lines sp
 line_again line Valid value_of exact before left value (l ∷ m ∷ front) valid lines spelled past last =
     let clash = tail_is l.words (line value) (m.words ∷ text_of front) [] spelled in absurd cc
 
-line_stops : {A : Type 0} (line : A → List Word) (Valid : A → Type 0) (value_of : List Word → Option A) → ExactLine line Valid value_of
+line_stops : {A : Type 0} (line : A → List Word) (Valid : A → Type 0) (value_of : List Word → Option A) → ExactText line Valid value_of
     → (some : A) → Valid some → (lines : List WordLine) (past last : ℕ) (refused : ℕ) → line_at value_of lines past ≡ Err refused
     → Refuses (λ a. line a ∷ []) Valid (record { lines = lines; past = past; last = last }) refused
 line_stops {A = A} line Valid value_of exact some valid [] past last refused e =
@@ -117,7 +118,7 @@ line_stops {A = A} line Valid value_of exact some valid (l ∷ lines) past last 
     refused_line (Some a) is h = absurd cc
 
 -- A section of one line is exact where its line is; some value has to be valid.
-pub Exact-line : {A : Type 0} (line : A → List Word) (Valid : A → Type 0) (value_of : List Word → Option A) → ExactLine line Valid value_of
+pub Exact-line : {A : Type 0} (line : A → List Word) (Valid : A → Type 0) (value_of : List Word → Option A) → ExactText line Valid value_of
     → (some : A) → Valid some → Exact (λ a. line a ∷ []) Valid (one_line value_of)
 Exact-line line Valid value_of exact some valid = record {
   some = some;
@@ -128,10 +129,6 @@ Exact-line line Valid value_of exact some valid = record {
 }
 
 -- ---- no line
-
-empty_text : (front : List WordLine) → text_of front ≡ [] → front ≡ []
-empty_text [] e = refl
-empty_text (l ∷ front) e = absurd cc
 
 nothing_again : (before left : Feed) (front : List WordLine) → before.lines ≡ front ++ left.lines → text_of front ≡ [] → left.past ≡ before.past → left.last ≡ last_of front before.last
     → before ≡ left

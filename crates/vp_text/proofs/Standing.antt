@@ -1,13 +1,10 @@
 -- Where a reader stands: what one line more, and one reader after the other, leave.
-use Rattle.std.proofs.Common.{◌≡◌, ℕ, List, [], ◌∷◌, ◌++◌, Result, Ok, Err, IfErr, refl, sym, ap, subst, ◌∙◌}
+use Rattle.std.proofs.Common.{◌≡◌, List, [], ◌∷◌, ◌++◌, Result, Ok, Err, IfErr, refl, sym, ap, subst, ◌∙◌}
 use Rattle.std.proofs.lemmas.List.{append_assoc}
 use Rattle.vp_text.specs.Lines.{WordLine, Feed}
 use Rattle.vp_text.specs.Sections.{last_of, Leaves, IsAt, StandsBehind}
 use Rattle.vp_text.specs.declared.refused.Refused.{Refused}
-
-last_of-append : (front more : List WordLine) (other : ℕ) → last_of (front ++ more) other ≡ last_of more (last_of front other)
-last_of-append [] more other = refl
-last_of-append (line ∷ front) more other = last_of-append front more line.line
+use Rattle.vp_text.proofs.Spelled.{last_of-append}
 
 -- ---- which lines were read
 

@@ -2,7 +2,8 @@
 use Rattle.std.proofs.Common.{◌≡◌, ℕ, Bool, true, false, cond, IsTrue, List, [], ◌∷◌, ◌++◌, Result, Ok, Err, ◌⊎◌, inl, inr, refl, sym, ap, subst, ◌∙◌, append_assoc}
 use Rattle.std.proofs.lemmas.List.{append-nil}
 use Rattle.vp_text.specs.Lines.{WordLine, Feed}
-use Rattle.vp_text.specs.Sections.{Text, Reader, text_of, last_of, Starts, Begins, Refuses, Exact, IsWhole, FirstBreak, RefusedLine, both_text, AreBoth, Misfit, RefusedInput, AcceptedInput}
+use Rattle.vp_text.specs.Sections.{Text, text_of, last_of, Starts, Begins, Refuses, IsWhole, FirstBreak, RefusedLine, both_text, AreBoth, Misfit, RefusedInput, AcceptedInput}
+use Rattle.vp_text.specs.ExactReaders.{Reader, Exact}
 use Rattle.vp_text.specs.Reading.{◌>>=◌, both, fitting, ended, whole}
 use Rattle.vp_text.proofs.Spelled.{bind_ok, bind_err, ok_is, err_is, ok_err, head_is, append_cases, text_of-append}
 use Rattle.vp_text.proofs.Sections.{spelling_unique, begins_lacks}

@@ -29,15 +29,15 @@ joined_words line word (next ∷ more) = append_assoc line (32 ∷ word) (32 ∷
 is_some : (line : List ℕ) → 0 < length line → is_empty line ≡ false
 is_some line some = grind (arith, nat_tests)
 
-words_spaced : (line : List ℕ) (more : List Word) → 0 < length line → with_words line more ≡ spaced (line ∷ more)
-words_spaced line [] some = refl
-words_spaced line (word ∷ more) some =
+with_words_spaced : (line : List ℕ) (more : List Word) → 0 < length line → with_words line more ≡ spaced (line ∷ more)
+with_words_spaced line [] some = refl
+with_words_spaced line (word ∷ more) some =
     let here : with_word line word ≡ line ++ 32 ∷ word = rw (is_some line some)
-    in ap (λ l. with_words l more) here ∙ (words_spaced (line ++ 32 ∷ word) more (omega (arith, length-append line (32 ∷ word))) ∙ joined_words line word more)
+    in ap (λ l. with_words l more) here ∙ (with_words_spaced (line ++ 32 ∷ word) more (omega (arith, length-append line (32 ∷ word))) ∙ joined_words line word more)
 
 -- the bytes of a line whose first word is not empty
 pub line_bytes : (first : Word) (more : List Word) → 0 < length first → with_words [] (first ∷ more) ++ 10 ∷ [] ≡ line_of (first ∷ more)
-line_bytes first more some = ap (λ (line : List ℕ). line ++ 10 ∷ []) (words_spaced first more some)
+line_bytes first more some = ap (λ (line : List ℕ). line ++ 10 ∷ []) (with_words_spaced first more some)
 
 -- ---- the lines of a text
 

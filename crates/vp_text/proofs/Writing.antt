@@ -8,7 +8,8 @@ use Rattle.std.proofs.lemmas.List.Sums.{position_or_len_is}
 use Rattle.std.proofs.lemmas.List.Concat.{flat_map-cons}
 use Rattle.std.proofs.lemmas.List.Splits.{slice_split_at, slice_split_none}
 use Rattle.vp_text.specs.Lines.{Word, WordLine, Feed, is_blank, is_empty, words_in, said, lines_in, lines_between, numbered, feed_of}
-use Rattle.vp_text.specs.Sections.{Text, Reader, text_of, last_of, Exact}
+use Rattle.vp_text.specs.Sections.{Text, text_of, last_of}
+use Rattle.vp_text.specs.ExactReaders.{Reader, Exact}
 use Rattle.vp_text.specs.Written.{with_word, spaced, line_of, written, is_plain, IsPlainWord, IsPlainText}
 use Rattle.vp_text.proofs.Spelled.{parts}
 use Rattle.vp_text.proofs.Cuts.{split_some, take_whole, word_first}
@@ -82,16 +83,16 @@ no_comment xs h =
 said_clean : (xs : List ℕ) → AllByRecursion Clean xs → said xs ≡ xs
 said_clean xs h = ap (before_first (λ byte. eqb byte 35)) (no_return xs h) ∙ no_comment xs h
 
-words_spaced : (words : List Word) → AllByRecursion IsPlainWord words → words_in (spaced words) ≡ words
-words_spaced [] h = refl
-words_spaced (word ∷ []) h =
+words_in_spaced : (words : List Word) → AllByRecursion IsPlainWord words → words_in (spaced words) ≡ words
+words_in_spaced [] h = refl
+words_in_spaced (word ∷ []) h =
     let whole : slice_split is_blank word ≡ word ∷ [] = slice_split_none is_blank word (All-from_recursion (λ byte. is_blank byte ≡ false) word (no_blanks word h.0.1)) in
     ap (filter (λ w. not (is_empty w))) whole ∙ word_first word [] h.0.0
-words_spaced (word ∷ next ∷ more) h =
+words_in_spaced (word ∷ next ∷ more) h =
     let rest = spaced (next ∷ more) in
     let cut : slice_split is_blank (word ++ 32 ∷ rest) ≡ word ∷ slice_split is_blank rest =
     slice_split_at is_blank word 32 rest (All-from_recursion (λ byte. is_blank byte ≡ false) word (no_blanks word h.0.1)) refl in
-    ap (filter (λ w. not (is_empty w))) cut ∙ word_first word (slice_split is_blank rest) h.0.0 ∙ ap (λ (ws : List Word). word ∷ ws) (words_spaced (next ∷ more) h.1)
+    ap (filter (λ w. not (is_empty w))) cut ∙ word_first word (slice_split is_blank rest) h.0.0 ∙ ap (λ (ws : List Word). word ∷ ws) (words_in_spaced (next ∷ more) h.1)
 
 -- ---- lines
 
@@ -128,7 +129,7 @@ written_read (words ∷ text) more h =
     let regroup : written (words ∷ text) ++ more ≡ spaced words ++ 10 ∷ rest =
     ap (λ (bs : List ℕ). bs ++ more) (flat_map-cons line_of words text) ∙ append_assoc (line_of words) (written text) more ∙ append_assoc (spaced words) (10 ∷ []) rest in
     let clean = clean_spaced words h.0.1 in
-    let says : words_in (said (spaced words)) ≡ words = ap words_in (said_clean (spaced words) clean) ∙ words_spaced words h.0.1 in
+    let says : words_in (said (spaced words)) ≡ words = ap words_in (said_clean (spaced words) clean) ∙ words_in_spaced words h.0.1 in
     ap (λ (bs : List ℕ). text_of (numbered 1 (lines_in bs))) regroup
     ∙ ap (λ (ls : List (List ℕ)). text_of (numbered 1 ls)) (line_cut (spaced words) rest clean)
     ∙ numbered_line 1 (spaced words) (lines_in rest) words says h.0.0
@@ -146,10 +147,10 @@ appended (first ∷ []) word some = refl
 appended (first ∷ next ∷ more) word some =
     append_assoc first (32 ∷ spaced (next ∷ more)) (32 ∷ word) ∙ ap (λ (bs : List ℕ). first ++ 32 ∷ bs) (appended (next ∷ more) word (omega arith))
 
-pub with_word_is : (words : List Word) (word : Word) → AllByRecursion IsPlainWord words → with_word (spaced words) word ≡ spaced (words ++ word ∷ [])
-with_word_is [] word h = refl
-with_word_is (first ∷ more) word h =
-    ap (λ (b : Bool). cond b word (spaced (first ∷ more) ++ 32 ∷ word)) (full_spaced first more h.0.0) ∙ appended (first ∷ more) word (omega arith)
+pub with_word_spaced : (words : List Word) (word : Word) → AllByRecursion (λ w. 0 < length w) words → with_word (spaced words) word ≡ spaced (words ++ word ∷ [])
+with_word_spaced [] word h = refl
+with_word_spaced (first ∷ more) word h =
+    ap (λ (b : Bool). cond b word (spaced (first ∷ more) ++ 32 ∷ word)) (full_spaced first more h.0) ∙ appended (first ∷ more) word (omega arith)
 
 -- ---- values
 

@@ -4,3 +4,4 @@ pub mod Reading
 pub mod Pieces
 pub mod Numbers
 pub mod Written
+pub mod ExactReaders

@@ -1,5 +1,5 @@
 -- The lines of a text that have words, each with its number.
-use Rattle.std.specs.Prelude.{ℕ, ◌+◌, Bool, false, ◌||◌, not, ◌==◌, List, [], ◌∷◌, length, filter, bytes_eq, if◌then◌else◌}
+use Rattle.std.specs.Prelude.{ℕ, ◌+◌, Bool, ◌||◌, not, ◌==◌, List, [], ◌∷◌, length, filter, if◌then◌else◌}
 use Rattle.std.specs.List.{slice_split, before_first}
 use Rattle.std.specs.Str.Lines.{strip_carriage_return}
 
@@ -33,7 +33,7 @@ words_in text = filter (λ word. not (is_empty word)) (slice_split is_blank text
 abbrev pub said : List ℕ → List ℕ
 said text = before_first (λ byte. byte == 35) (strip_carriage_return text)
 
--- the lines between the line feeds; nothing behind the last line feed is no line
+-- the lines between the line feeds; what stands behind the last line feed is a line where it is not empty
 abbrev pub lines_between : List (List ℕ) → List (List ℕ)
 lines_between [] = []
 lines_between (text ∷ []) = if is_empty text then [] else text ∷ []
@@ -51,18 +51,3 @@ numbered line (text ∷ more) =
 -- a text before its first line is read
 abbrev pub feed_of : List ℕ → Feed
 feed_of bytes = record { lines = numbered 1 (lines_in bytes); past = length (lines_in bytes) + 1; last = 0 }
-
--- the lines behind this one
-abbrev pub behind : WordLine → List WordLine → ℕ → Feed
-behind line lines past = record { lines = lines; past = past; last = line.line }
-
--- the next word is this one
-abbrev pub next_is : Word → List Word → Bool
-next_is word [] = false
-next_is word (next ∷ more) = bytes_eq next word
-
--- this word is the only one
-abbrev pub only_is : Word → List Word → Bool
-only_is word [] = false
-only_is word (next ∷ []) = bytes_eq next word
-only_is word (next ∷ second ∷ more) = false

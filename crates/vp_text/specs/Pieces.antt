@@ -12,11 +12,6 @@ abbrev pub ◌>>=◌ : {A B : Type 0} → Option A → (A → Option B) → Opti
 (Some x) >>= f = f x
 None >>= f = None
 
--- the word of a value is read as this value, and no other word is read
-pub record ExactWord {A : Type 0} (word : A → Word) (Valid : A → Type 0) (read : Word → Option A) : Type 0 where
-  pub takes : (text : Word) (value : A) → read text ≡ Some value → Valid value × (word value ≡ text)
-  pub again : (value : A) → Valid value → read (word value) ≡ Some value
-
 -- the words of a value are read as this value wherever such words follow, and no other words are read
 pub record ExactPiece {A : Type 0} (spell : A → List Word) (Valid : A → Type 0) (May : List Word → Bool) (read : Piece A) : Type 0 where
   pub takes : (words rest : List Word) (value : A) → read words ≡ Some (value, rest) → Valid value × (words ≡ spell value ++ rest)

@@ -6,11 +6,26 @@
 -- may_close items tells whether they may be closed. `mapped` makes a record of the pair. Beside it stand the spelling, put together
 -- from both_text and closed_text, and which values are valid. Each part is exact where its own parts are (Exact-line, Exact-both,
 -- Exact-closed, Exact-mapped), and so the whole section is: see Exact.
-use Rattle.std.specs.Prelude.{◌≡◌, ℕ, Bool, List, [], ◌∷◌, ◌++◌, Option, Some, None, option_map, Result, Ok, Err, ◌⊎◌, if◌then◌else◌}
+use Rattle.std.specs.Prelude.{◌≡◌, ℕ, Bool, List, [], ◌∷◌, ◌++◌, Option, Some, None, option_map, Result, Ok, Err, ◌⊎◌, if◌then◌else◌, false, bytes_eq}
 use Rattle.std.proofs.Common.{inl, inr}
-use Rattle.vp_text.specs.Lines.{Word, WordLine, Feed, behind, only_is}
-use Rattle.vp_text.specs.Sections.{Reader}
+use Rattle.vp_text.specs.Lines.{Word, WordLine, Feed}
+use Rattle.vp_text.specs.ExactReaders.{Reader}
 use Rattle.vp_text.specs.declared.refused.Refused.{Refused}
+
+-- the lines behind this one
+abbrev pub behind : WordLine → List WordLine → ℕ → Feed
+behind line lines past = record { lines = lines; past = past; last = line.line }
+
+-- the next word is this one
+abbrev pub next_is : Word → List Word → Bool
+next_is word [] = false
+next_is word (next ∷ more) = bytes_eq next word
+
+-- this word is the only one
+abbrev pub only_is : Word → List Word → Bool
+only_is word [] = false
+only_is word (next ∷ []) = bytes_eq next word
+only_is word (next ∷ second ∷ more) = false
 
 infixl 10 ◌>>=◌
 abbrev pub ◌>>=◌ : {A B : Type 0} → Result A ℕ → (A → Result B ℕ) → Result B ℕ

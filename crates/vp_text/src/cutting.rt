@@ -36,7 +36,7 @@ fn word_in(text: &[u8]) -> Option<usize>
 }
 
 /// The first line, and what is behind its line feed.
-pub fn cut_line(bytes: &[u8]) -> (&[u8], &[u8])
+pub(crate) fn cut_line(bytes: &[u8]) -> (&[u8], &[u8])
     requires { 0 < length bytes.now }
     ensures cut { lines_in bytes.now ≡ result.0.now ∷ lines_in result.1.now }
     ensures shorter { length result.1.now < length bytes.now }
@@ -70,14 +70,14 @@ fn without_comment(text: &[u8]) -> &[u8]
 }
 
 /// What a line says: without its carriage return and its comment.
-pub fn what_is_said(text: &[u8]) -> &[u8]
+pub(crate) fn what_is_said(text: &[u8]) -> &[u8]
     ensures { result.now ≡ said text.now }
 {
     without_comment(without_return(text))
 }
 
 /// The text from its first word on.
-pub fn from_word(text: &[u8]) -> &[u8]
+pub(crate) fn from_word(text: &[u8]) -> &[u8]
     ensures same { words_in result.now ≡ words_in text.now }
     ensures starts { 0 < length result.now → is_blank (slice_index result.now 0) ≡ false }
 {
@@ -88,7 +88,7 @@ pub fn from_word(text: &[u8]) -> &[u8]
 }
 
 /// The first word, and what is behind it.
-pub fn cut_word(text: &[u8]) -> (&[u8], &[u8])
+pub(crate) fn cut_word(text: &[u8]) -> (&[u8], &[u8])
     requires some { 0 < length text.now }
     requires starts { is_blank (slice_index text.now 0) ≡ false }
     ensures { words_in text.now ≡ result.0.now ∷ words_in result.1.now }

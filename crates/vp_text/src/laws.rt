@@ -1,12 +1,14 @@
 //! The laws of sections and of what is written. Each is the contract of a function that does nothing.
 //! In a law, which values are valid is told by a test.
 
-ghost use Rattle.std.specs.Prelude.{◌≡◌, ◌<◌, ℕ, Bool, IsTrue, List, [], ◌∷◌, ◌++◌, length, Option, Result, Ok, Err, ◌⊎◌, ◌↔◌};
+ghost use Rattle.std.specs.Prelude.{◌≡◌, ◌<◌, ◌≤◌, ◌^◌, ℕ, Bool, IsTrue, List, [], ◌∷◌, ◌++◌, length, decimal, Option, Some, Result, Ok, Err, ◌⊎◌, ◌↔◌};
 ghost use Rattle.std.specs.List.{AllByRecursion};
 ghost use Rattle.vp_text.specs.Lines.{Word, Feed, feed_of};
-ghost use Rattle.vp_text.specs.Sections.{Text, Reader, text_of, Exact, ExactLine, both_text, AreBoth, Seen, Keeps, Closes, closed_text, AreClosed, on_item, Finish, rows_text, AreRows, IsWhole, RefusedLine, RefusedInput, AcceptedInput};
+ghost use Rattle.vp_text.specs.Sections.{Text, text_of, both_text, AreBoth, IsWhole, RefusedLine, RefusedInput, AcceptedInput};
+ghost use Rattle.vp_text.specs.ExactReaders.{Reader, Exact, Seen, Keeps, Closes, closed_text, AreClosed, on_item, Finish, rows_text, AreRows, ExactText};
 ghost use Rattle.vp_text.specs.Reading.{one_line, nothing, both, rows, closed, mapped, fitting, whole};
-ghost use Rattle.vp_text.specs.Written.{with_word, spaced, written, IsPlainWord, IsPlainText};
+ghost use Rattle.vp_text.specs.Numbers.{number_within};
+ghost use Rattle.vp_text.specs.Written.{with_word, spaced, written, IsPlainText};
 
 /// A text that begins with valid spellings begins with one: different values have different spellings,
 /// and no spelling begins another.
@@ -17,7 +19,7 @@ pub fn spelling_unique<A>()
 
 /// A section of one line is read exactly where its line is.
 pub fn one_line_exact<A>()
-    ensures { (line : A → List Word) (valid : A → Bool) (value_of : List Word → Option A) → ExactLine line (λ a. IsTrue (valid a)) value_of
+    ensures { (line : A → List Word) (valid : A → Bool) (value_of : List Word → Option A) → ExactText line (λ a. IsTrue (valid a)) value_of
         → (some : A) → IsTrue (valid some) → Exact (λ a. line a ∷ []) (λ a. IsTrue (valid a)) (one_line value_of) }
 {}
 
@@ -32,7 +34,7 @@ pub fn both_exact<A, B>()
 /// rule can be continued to a section.
 pub fn rows_exact<I, Z>()
     ensures { (line : I ⊎ Z → List Word) (rule : List I → I ⊎ Z → Bool) (row_of : List I → List Word → Option (I ⊎ Z))
-        → ((front : List I) → ExactLine line (λ row. IsTrue (rule front row)) (row_of front))
+        → ((front : List I) → ExactText line (λ row. IsTrue (rule front row)) (row_of front))
         → ((front : List I) → Keeps (on_item (λ front row. IsTrue (rule front row))) [] front → Finish (λ front row. IsTrue (rule front row)) front)
         → Exact (rows_text line) (AreRows (λ front row. IsTrue (rule front row))) (rows row_of) }
 {}
@@ -40,7 +42,7 @@ pub fn rows_exact<I, Z>()
 /// The same for items that a word alone closes.
 pub fn closed_exact<I>()
     ensures { (word : Word) (may_close : List I → Bool) (line : I → List Word) (allows : List I → I → Bool) (item_of : List I → List Word → Option I)
-        → ((front : List I) → ExactLine line (λ item. IsTrue (allows front item)) (item_of front))
+        → ((front : List I) → ExactText line (λ item. IsTrue (allows front item)) (item_of front))
         → ((front : List I) (item : I) → IsTrue (allows front item) → line item ≡ word ∷ [] → ⊥)
         → ((front : List I) → Keeps (λ front item. IsTrue (allows front item)) [] front → Closes may_close (λ front item. IsTrue (allows front item)) front)
         → Exact (closed_text word line) (AreClosed may_close (λ front item. IsTrue (allows front item))) (closed word may_close item_of) }
@@ -88,7 +90,12 @@ pub fn written_again<A>()
         → (left : Feed) × (read (feed_of (written (spell value) ++ more)) ≡ Ok (value, left)) × (text_of left.lines ≡ text_of (feed_of more).lines) }
 {}
 
-/// Words that are appended one by one stand in the line with one space between.
+/// A word is a number between bounds exactly where it is the decimal digits of this number.
+pub fn numbers_are_spelled()
+    ensures { (least most n : ℕ) (word : Word) → most < 2 ^ 64 → number_within least most word ≡ Some n ↔ ((least ≤ n) × (n ≤ most) × (word ≡ decimal n)) }
+{}
+
+/// Words that are appended one by one stand in the line with one space between, where none of them is empty.
 pub fn words_spaced()
-    ensures { (words : List Word) (word : Word) → AllByRecursion IsPlainWord words → with_word (spaced words) word ≡ spaced (words ++ word ∷ []) }
+    ensures { (words : List Word) (word : Word) → AllByRecursion (λ w. 0 < length w) words → with_word (spaced words) word ≡ spaced (words ++ word ∷ []) }
 {}

@@ -10,8 +10,8 @@ mod out;
 mod refused;
 
 pub use laws::{
-    both_exact, closed_exact, fitting_exact, mapped_exact, one_line_exact, rows_exact,
-    spelling_unique, whole_exact, words_spaced, written_again, written_read,
+    both_exact, closed_exact, fitting_exact, mapped_exact, numbers_are_spelled, one_line_exact,
+    rows_exact, spelling_unique, whole_exact, words_spaced, written_again, written_read,
 };
 pub use lines::{Lines, Words};
 pub use next_words::{key_word, next_number, next_number_within};

@@ -1,8 +1,10 @@
 //! The lines of a text that have words, and the words of a line.
 
-ghost use Rattle.std.specs.Prelude.{◌≡◌, ◌+◌, ◌<◌, ◌≤◌, List, [], ◌∷◌, length, MatchOption, IfSome};
-ghost use Rattle.vp_text.specs.Lines.{lines_in, words_in, said, behind, feed_of, next_is, only_is};
+ghost use Rattle.std.specs.Prelude.{◌≡◌, ◌+◌, ◌<◌, ◌≤◌, List, [], ◌∷◌, length, MatchOption, IfSome, IfOk, IfErr};
+ghost use Rattle.vp_text.specs.Lines.{lines_in, words_in, said, feed_of};
+ghost use Rattle.vp_text.specs.Reading.{behind, next_is, only_is};
 
+use crate::Refused;
 use crate::cutting::{cut_line, cut_word, from_word, what_is_said};
 use std::marker::Model;
 
@@ -67,14 +69,21 @@ impl<'a> Words<'a> {
         Some(word)
     }
 
+    /// A reader of the same words, to look ahead with.
+    fn again(&self) -> Words<'a>
+        ensures { result ≡ self.now }
+    {
+        Words {
+            line: self.line,
+            rest: self.rest,
+        }
+    }
+
     /// Looks ahead: the next word is this one.
     pub fn next_is(&self, word: &[u8]) -> bool
         ensures { result ≡ next_is word.now self.now.words }
     {
-        let mut ahead = Words {
-            line: self.line,
-            rest: self.rest,
-        };
+        let mut ahead = self.again();
         match ahead.next() {
             Some(next) => next == word,
             None => false,
@@ -85,10 +94,7 @@ impl<'a> Words<'a> {
     pub fn only_is(&self, word: &[u8]) -> bool
         ensures { result ≡ only_is word.now self.now.words }
     {
-        let mut ahead = Words {
-            line: self.line,
-            rest: self.rest,
-        };
+        let mut ahead = self.again();
         match ahead.next() {
             Some(next) => next == word && ahead.next().is_none(),
             None => false,
@@ -97,7 +103,8 @@ impl<'a> Words<'a> {
 }
 
 impl<'a> Lines<'a> {
-    /// The lines of a text of at most 64 MiB.
+    /// The lines of a text of at most 64 MiB: they end at line feeds, `#` begins a comment, and words stand between
+    /// spaces and tabs.
     pub fn new(bytes: &'a [u8]) -> Lines<'a>
         requires { length bytes.now ≤ 67108864 }
         ensures { result ≡ feed_of bytes.now }
@@ -132,7 +139,20 @@ impl<'a> Lines<'a> {
         None
     }
 
-    /// One more than the number of lines of the text.
+    /// The next line that has words, where one is wanted. `Refused` is the line past the end, where none is left.
+    pub fn next_wanted(&mut self) -> Result<Words<'a>, Refused>
+        ensures past { self.new.past ≡ self.old.past }
+        ensures next { IfOk result (λ words. (self.old.lines ≡ words ∷ self.new.lines) × (self.new.last ≡ words.line)) }
+        // Nothing changes where no line is left.
+        ensures none { IfErr result (λ e. (self.old.lines ≡ []) × (self.new ≡ self.old) × (e.line ≡ self.old.past)) }
+    {
+        match self.next() {
+            Some(words) => Ok(words),
+            None => Err(Refused { line: self.past() }),
+        }
+    }
+
+    /// One more than the number of lines of the text. It walks the lines that are left.
     pub fn past(&self) -> u32
         ensures { result ≡ self.now.past }
     {

@@ -1,4 +1,5 @@
-//! The next words of a line, taken one by one.
+//! The next words of a line, taken one by one. Where a call answers `None` the line does not say what was wanted, and
+//! which of its words are left is not told.
 
 ghost use Rattle.std.specs.Prelude.{◌≡◌, ◌≤◌, IfSome};
 ghost use Rattle.vp_text.specs.Numbers.{number_of, number_within};

@@ -5,7 +5,8 @@ ghost use Rattle.vp_text.specs.Numbers.{number_of};
 
 use itoa::Buffer;
 
-/// The number that is written in decimal digits without a sign and without a leading zero.
+/// The number below 2^64 that is written in decimal digits, without a sign and without a leading zero.
+/// `None` for every other text.
 pub fn number(text: &[u8]) -> Option<u64>
     ensures value { result ≡ number_of text.now }
     // A number that is read is written so.

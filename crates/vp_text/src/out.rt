@@ -50,7 +50,7 @@ impl Out {
         }
     }
 
-    /// Appends a word.
+    /// Appends a word, behind one space unless it is the first of the line.
     #[tactic(auto, using(crate::proofs::Room::length_with_word))]
     pub fn word(&mut self, text: &[u8])
         requires { length (with_word self.old text.now) < 512 }
@@ -64,7 +64,7 @@ impl Out {
         self.line.try_extend_from_slice(text).unwrap();
     }
 
-    /// Appends a number in decimal digits.
+    /// Appends a number in decimal digits, as a word.
     #[tactic(auto, using(crate::proofs::Room::length_with_word, crate::proofs::Room::length_decimal))]
     pub fn number(&mut self, value: u128)
         requires { length (with_word self.old (decimal value)) < 512 }

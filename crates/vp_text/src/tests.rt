@@ -51,6 +51,14 @@ fn edges_of_texts(rt: HostRuntime) {
     assert!(rt; Lines::new(b"\n\r").past() == 3);
     assert!(rt; Lines::new(b"a\n\n").past() == 3);
     assert!(rt; Lines::new(b"\r\n\t#a b").next().is_none());
+    match Lines::new(b"\n#\n").next_wanted() {
+        Ok(_) => assert!(rt; false),
+        Err(refused) => assert!(rt; refused.line == 3),
+    }
+    match Lines::new(b"\n#\na").next_wanted() {
+        Ok(words) => assert!(rt; words.line() == 3),
+        Err(_) => assert!(rt; false),
+    }
 }
 
 #[test]
@@ -102,5 +110,6 @@ fn laws_at_a_type() {
     fitting_exact::<u8, u16>();
     written_read();
     written_again::<u8>();
+    numbers_are_spelled();
     words_spaced();
 }
