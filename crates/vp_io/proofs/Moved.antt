@@ -1,8 +1,8 @@
 -- Two calls, one after the other: what they gave or took together.
-use Rattle.std.proofs.Common.{◌≡◌, ℕ, ◌+◌, ◌<◌, ◌≤◌, List, ◌++◌, length, take, drop, sym, subst, arith, length-append}
+use Rattle.std.proofs.Common.{◌≡◌, ℕ, ◌+◌, ◌≤◌, List, ◌++◌, length, take, drop, sym, subst, arith, length-append}
 use Rattle.std.specs.Prelude.{Option}
-use Rattle.std.specs.Io.KnownBytes.{Appends, Consumes, Keeps}
-use Rattle.std.proofs.KnownBytes.{Appends-trans, Appends-kept, Consumes-trans}
+use Rattle.std.specs.Io.KnownBytes.{Appends, Consumes}
+use Rattle.std.proofs.KnownBytes.{Appends-trans, Consumes-trans}
 use Rattle.std.proofs.Math.Seq.{take-add, take-append-add}
 use Rattle.std.proofs.lemmas.List.{take-append-le}
 use Rattle.vp_io.specs.Streams.{GaveUpTo, TookPart}
@@ -17,10 +17,6 @@ pub Appends-more : (a b c : Option (List ℕ)) (m n : ℕ) (xs rest : List ℕ) 
 Appends-more a b c m n xs rest rest_is first more =
     let then = subst (λ (r : List ℕ). Appends b c (take n r)) rest_is more in
     subst (Appends a c) (sym (take-add m n xs)) (Appends-trans a b c (take m xs) (take n (drop m xs)) first then)
-
--- a sink that took the front, and then nothing
-pub TookPart-stopped : (a b c : Option (List ℕ)) (m : ℕ) (xs : List ℕ) → Appends a b (take m xs) → Keeps b c → m < length xs → TookPart a c xs
-TookPart-stopped a b c m xs first kept short = (m, short, Appends-kept a b c (take m xs) first kept)
 
 -- a sink that took one text, and then a part of another
 pub TookPart-after : (a b c : Option (List ℕ)) (xs ys : List ℕ) → Appends a b xs → TookPart b c ys → TookPart a c (xs ++ ys)

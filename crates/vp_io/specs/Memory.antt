@@ -1,6 +1,7 @@
 -- Sources and sinks in memory: how much a call moves, and which calls fail.
-use Rattle.std.specs.Prelude.{ℕ, ◌+◌, ◌-◌, ◌^◌, min, Bool, ◌==◌, ◌&&◌, nat_lt, List, length}
+use Rattle.std.specs.Prelude.{ℕ, Bool, ◌==◌, ◌&&◌, nat_lt, List, length}
 use Rattle.std.specs.List.{list_any}
+use Rattle.vp_io.specs.Causes.{one_more}
 
 -- the calls of an object in memory: the most bytes that one moves, the numbers of those that fail, how many came, how many failed
 pub record MemCalls : Type 0 where
@@ -8,10 +9,6 @@ pub record MemCalls : Type 0 where
   pub fails : List ℕ
   pub made : ℕ
   pub faults : ℕ
-
--- one more, up to 2^64 - 1
-abbrev pub one_more : ℕ → ℕ
-one_more n = min (n + 1) (2 ^ 64 - 1)
 
 -- the number of the next call, from 1, is listed
 abbrev pub fails_next : MemCalls → Bool

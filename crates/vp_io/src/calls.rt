@@ -1,4 +1,5 @@
-// The calls of an object in memory: how much one moves, and which of them fail.
+//! The calls of an object in memory: how much one moves, and which of them fail.
+
 ghost use Rattle.std.specs.Prelude.{◌≡◌, ℕ};
 
 use std::marker::Model;

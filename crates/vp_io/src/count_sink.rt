@@ -1,4 +1,5 @@
-// A sink that keeps no bytes, and counts them.
+//! A sink that keeps no bytes, and counts them.
+
 ghost use Rattle.std.specs.Prelude.{◌≡◌};
 
 use crate::{Failed, Sink};

@@ -1,4 +1,5 @@
-// The answers of a source, a sink and the calls over them that are not Ok.
+//! The answers of a source, a sink and the calls over them that are not Ok.
+
 use thiserror::Error;
 
 /// A read or a write that failed. The object that answers it has counted it.

@@ -1,4 +1,5 @@
-// A sink over room in memory, which tells what it took, and fails at the calls that it is told and where it is full.
+//! A sink over room in memory, which tells what it took, and fails at the calls that it is told and where it is full.
+
 use crate::calls::Calls;
 use crate::{Failed, Sink};
 use std::marker::Model;

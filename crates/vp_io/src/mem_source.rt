@@ -1,4 +1,5 @@
-// A source over bytes in memory, which tells them, and fails at the calls that it is told.
+//! A source over bytes in memory, which tells them, and fails at the calls that it is told.
+
 use crate::calls::Calls;
 use crate::{Failed, Source};
 use std::marker::Model;

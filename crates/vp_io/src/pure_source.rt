@@ -1,4 +1,5 @@
-// A source over bytes in memory that never fails.
+//! A source over bytes in memory that never fails.
+
 use crate::{Failed, Source};
 use std::marker::Model;
 

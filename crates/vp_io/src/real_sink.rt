@@ -1,5 +1,6 @@
-// A sink over a writer of std.
-ghost use Rattle.std.specs.Prelude.{◌≡◌, IfOk, take};
+//! A sink over a writer of std.
+
+ghost use Rattle.std.specs.Prelude.{◌≡◌, ℕ, IfOk, OnErr, take};
 ghost use Rattle.std.specs.Io.{WritesAtMost};
 ghost use Rattle.std.specs.Io.KnownBytes.{Appends};
 
@@ -8,8 +9,9 @@ use std::io;
 use std::io::Write;
 use std::marker::Model;
 
-/// Hands bytes to a writer, and tells nothing of them. Each `Err` of the writer is a fault, and so is a write that
-/// takes nothing of a piece that is not empty. After each write it flushes.
+/// Hands bytes to a writer, and tells nothing of them. After each write it flushes. Each `Err` of the writer is a
+/// fault, and so is a write that takes nothing of a piece that is not empty. Where the flush fails the call fails,
+/// though the writer may hold what was written.
 #[derive(Drop)]
 pub struct RealSink<W: Write> {
     writer: W,
@@ -37,6 +39,7 @@ impl<W: Write> RealSink<W> {
 fn write_through<W: Write>(writer: &mut W, piece: &[u8]) -> io::Result<usize>
     ensures bound { WritesAtMost result piece.now }
     ensures bytes { IfOk result (λ n. Appends (W.contents writer.old) (W.contents writer.new) (take n piece.now)) }
+    ensures stopped { OnErr result ((n : ℕ) × Appends (W.contents writer.old) (W.contents writer.new) (take n piece.now)) }
 {
     let count = writer.write(piece)?;
     writer.flush()?;
@@ -44,10 +47,10 @@ fn write_through<W: Write>(writer: &mut W, piece: &[u8]) -> io::Result<usize>
 }
 
 impl<W: Write> Sink for RealSink<W> {
-    ghost use Rattle.std.specs.Prelude.{None, IfOk, take};
+    ghost use Rattle.std.specs.Prelude.{◌≡◌, ℕ, None, IfOk, OnErr, take};
     ghost use Rattle.std.specs.Io.{WritesAtMost};
     ghost use Rattle.std.specs.Io.KnownBytes.{Appends, WriteAppends};
-    ghost use Rattle.vp_io.specs.Causes.{HasCause};
+    ghost use Rattle.vp_io.specs.Causes.{HasCause, one_more};
     ghost use Rattle.vp_io.specs.Streams.{TakesSome};
 
     ghost taken = { λ _. None };
@@ -61,6 +64,9 @@ impl<W: Write> Sink for RealSink<W> {
         ensures bytes { WriteAppends None None result piece.now }
         ensures cause { HasCause self.old.faults self.new.faults result }
         ensures writer { IfOk result (λ n. Appends self.old.bytes self.new.bytes (take n piece.now)) }
+        // After a fault the writer holds at most a beginning of the piece more.
+        ensures stopped { OnErr result ((n : ℕ) × Appends self.old.bytes self.new.bytes (take n piece.now)) }
+        ensures once { OnErr result (self.new.faults ≡ one_more self.old.faults) }
     {
         match write_through(&mut self.writer, piece) {
             Ok(count) if count > 0 || piece.is_empty() => Ok(count),

@@ -1,4 +1,5 @@
-// A source over a reader of std.
+//! A source over a reader of std.
+
 ghost use Rattle.std.specs.Prelude.{◌≡◌};
 
 use crate::{Failed, Source};
@@ -30,10 +31,10 @@ impl<R: Read> RealSource<R> {
 }
 
 impl<R: Read> Source for RealSource<R> {
-    ghost use Rattle.std.specs.Prelude.{None};
+    ghost use Rattle.std.specs.Prelude.{◌≡◌, None, OnErr};
     ghost use Rattle.std.specs.Io.{ReadsAtMost};
     ghost use Rattle.std.specs.Io.KnownBytes.{ReadConsumes};
-    ghost use Rattle.vp_io.specs.Causes.{HasCause};
+    ghost use Rattle.vp_io.specs.Causes.{HasCause, one_more};
     ghost use Rattle.vp_io.specs.Streams.{TellsEnd};
 
     ghost left = { λ _. None };
@@ -47,6 +48,7 @@ impl<R: Read> Source for RealSource<R> {
         ensures end { TellsEnd None result into.new }
         ensures cause { HasCause self.old.faults self.new.faults result }
         ensures reader { ReadConsumes self.old.bytes self.new.bytes result into.new }
+        ensures once { OnErr result (self.new.faults ≡ one_more self.old.faults) }
     {
         match self.reader.read(into) {
             Ok(count) => Ok(count),

@@ -1,4 +1,5 @@
-// Where bytes go.
+//! Where bytes go.
+
 ghost use Rattle.std.specs.Prelude.{ℕ, List, Option};
 ghost use Rattle.std.specs.Io.{WritesAtMost};
 ghost use Rattle.std.specs.Io.KnownBytes.{WriteAppends};
@@ -12,7 +13,7 @@ pub trait Sink {
     /// The bytes that were taken, where the sink tells them.
     ghost taken: { Self → Option (List ℕ) };
 
-    /// How many writes have failed. It stands still at 2^64 - 1.
+    /// A count that rises at each write that fails. It stands still at 2^64 - 1.
     ghost faults: { Self → ℕ };
 
     /// Takes the first bytes of the piece, and answers how many: at least one, unless the piece is empty.

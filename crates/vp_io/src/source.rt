@@ -1,4 +1,5 @@
-// Where bytes come from.
+//! Where bytes come from.
+
 ghost use Rattle.std.specs.Prelude.{ℕ, List, Option};
 ghost use Rattle.std.specs.Io.{ReadsAtMost};
 ghost use Rattle.std.specs.Io.KnownBytes.{ReadConsumes};
@@ -12,7 +13,7 @@ pub trait Source {
     /// The bytes that are left, where the source tells them.
     ghost left: { Self → Option (List ℕ) };
 
-    /// How many reads have failed. It stands still at 2^64 - 1.
+    /// A count that rises at each read that fails. It stands still at 2^64 - 1.
     ghost faults: { Self → ℕ };
 
     /// Moves the next bytes to the front of the buffer, and answers how many.

@@ -1,4 +1,5 @@
-// Whole texts through each source and each sink, and what a failing call leaves.
+//! Whole texts through each source and each sink, and what a failing call leaves.
+
 use crate::{
     CountSink, Failed, LIMIT, MemSink, MemSource, PureSource, ReadStop, RealSink, RealSource, Sink,
     Source, WriteFault, put, read_all,

@@ -1,4 +1,5 @@
-// Whole texts: all bytes of a source, and a text put to a sink.
+//! Whole texts: all bytes of a source, and a text put to a sink.
+
 ghost use Rattle.std.specs.Prelude.{◌≡◌, ◌⊎◌, ◌+◌, ◌-◌, ◌≤◌, ◌++◌, ℕ, List, length, IfOk, OnOk, OnErr, IsErrOf};
 ghost use Rattle.std.specs.Io.KnownBytes.{Consumes, IsAtEnd};
 ghost use Rattle.vp_io.specs.Causes.{Rose};
@@ -14,7 +15,8 @@ pub const LIMIT: usize = 67_108_864;
 /// The most bytes that one read asks for.
 const BLOCK: usize = 65_536;
 
-/// All bytes of the source up to the end of input. After a refusal the bytes that were read are gone.
+/// All bytes of the source up to the end of input, at most `LIMIT` of them. Where it answers no bytes, those that were
+/// read are gone.
 pub fn read_all<S: Source>(alloc: Global, source: &mut S) -> Result<Vec<u8>, ReadStop>
     ensures all { IfOk result (λ bytes. GaveAll (S.left source.old) (S.left source.new) bytes.items) }
     ensures within { IfOk result (λ bytes. length bytes.items ≤ LIMIT) }
