@@ -9,21 +9,22 @@ use Rattle.vp_card.specs.Cards.{in_deck, all_differ, in_order}
 use Rattle.vp_card.specs.Texts.{card_text}
 use Rattle.vp_card.specs.Reading.{card_of}
 use Rattle.vp_card.proofs.Texts.{card_of-text, text-card_of}
-use Rattle.vp_text.specs.Lines.{Word, WordLine, Feed, behind}
-use Rattle.vp_text.specs.Sections.{Exact, Starts, Refuses}
-use Rattle.vp_text.specs.Reading.{line_at, line_or, mapped, Gives, ◌>>=◌}
+use Rattle.vp_text.specs.Lines.{Word, WordLine, Feed}
+use Rattle.vp_text.specs.Reading.{behind, line_at, line_or, mapped, Gives, ◌>>=◌}
+use Rattle.vp_text.specs.Sections.{Starts, Refuses}
+use Rattle.vp_text.specs.ExactReaders.{Exact, ExactText}
 use Rattle.vp_text.specs.declared.refused.Refused.{Refused}
 use Rattle.vp_text.proofs.Sections.{Exact-line}
 use Rattle.vp_text.proofs.Spelled.{ok_is, ok_err, bind_ok, bind_err}
-use Rattle.vp_pay.specs.Deal.{IsDeal, IsDealt}
-use Rattle.vp_text.specs.Pieces.{ExactWord, so_many}
+use Rattle.vp_pay.specs.Deal.{AreDealtCards, IsDealt}
+use Rattle.vp_text.specs.Pieces.{so_many}
 use Rattle.vp_pay.specs.Spelling.{deal_text}
 use Rattle.vp_pay.specs.Reading.{deal_of, hand_of}
 use Rattle.vp_pay.specs.Sections.{deal_at, hand_at}
 use Rattle.vp_text.proofs.Pieces.{both_true, bound, at_end, chosen, no_value, so, took, Exact-key_word, Exact-so_many}
 
 -- the text of a card is read as this card, and nothing else is read
-pub Exact-card : ExactWord card_text (λ card. card < 53) card_of
+pub Exact-card : ExactText card_text (λ card. card < 53) card_of
 Exact-card = record { takes = λ text card read. text-card_of text card read; again = λ card is. card_of-text card is }
 
 cards_below : (n : ℕ) (cards : List ℕ) → n ≤ 53 → in_deck n cards ≡ true → AllByRecursion (λ card. card < 53) cards
@@ -33,7 +34,7 @@ cards_below n (card ∷ cards) most is =
     in let here : card < n = grind (arith, nat_tests)
     in (omega arith, cards_below n cards most parts.1)
 
-deal_taken : (n : ℕ) (words : List Word) (cards : List ℕ) → deal_of n words ≡ Some cards → IsDeal n cards × (codes "deal" ∷ map card_text cards ≡ words)
+deal_taken : (n : ℕ) (words : List Word) (cards : List ℕ) → deal_of n words ≡ Some cards → AreDealtCards n cards × (codes "deal" ∷ map card_text cards ≡ words)
 unfolding deal_of
 deal_taken n words cards read =
     let key = bound _ _ _ read
@@ -44,31 +45,31 @@ deal_taken n words cards read =
     in let m = took (Exact-so_many Exact-card 5) key.value.1 many.value many.first
     in let words_are : codes "deal" ∷ map card_text many.value.0 ≡ words =
     sym (k.front ∙ ap (λ (ws : List Word). codes "deal" ∷ ws) (m.front ∙ (ap (λ (ws : List Word). map card_text many.value.0 ++ ws) end.0 ∙ append-nil _)))
-    in chosen (λ cs. IsDeal n cs × (codes "deal" ∷ map card_text cs ≡ words)) (in_deck n five.value && all_differ five.value) (Some five.value) None cards five.then
+    in chosen (λ cs. AreDealtCards n cs × (codes "deal" ∷ map card_text cs ≡ words)) (in_deck n five.value && all_differ five.value) (Some five.value) None cards five.then
     (λ is e.
     let parts = both_true (in_deck n five.value) (all_differ five.value) is
-    in so (λ cs. IsDeal n cs × (codes "deal" ∷ map card_text cs ≡ words)) five.value cards e
+    in so (λ cs. AreDealtCards n cs × (codes "deal" ∷ map card_text cs ≡ words)) five.value cards e
     (record { five = ap length (sym end.1) ∙ m.valid.count; below = parts.0; differ = parts.1 }, ap (λ cs. codes "deal" ∷ map card_text cs) (sym end.1) ∙ words_are))
     (λ e. absurd (no_value cards e))
 
-deal_again : (n : ℕ) (cards : List ℕ) → n ≤ 53 → IsDeal n cards → deal_of n (codes "deal" ∷ map card_text cards) ≡ Some cards
+deal_again : (n : ℕ) (cards : List ℕ) → n ≤ 53 → AreDealtCards n cards → deal_of n (codes "deal" ∷ map card_text cards) ≡ Some cards
 unfolding deal_of
 deal_again n cards most is =
     let many : so_many card_of 5 (map card_text cards) ≡ Some (cards, []) =
     ap (so_many card_of 5) (sym (append-nil (map card_text cards))) ∙ (Exact-so_many Exact-card 5).again [] cards (record { count = is.five; all = cards_below n cards most is.below }) refl
     in rw (many, is.below, is.differ)
 
-first_cards : (n : ℕ) → 5 ≤ n → IsDeal n (0 ∷ 1 ∷ 2 ∷ 3 ∷ 4 ∷ [])
+first_cards : (n : ℕ) → 5 ≤ n → AreDealtCards n (0 ∷ 1 ∷ 2 ∷ 3 ∷ 4 ∷ [])
 first_cards n least = record {
   five = refl;
   below = rw (lt-ltb 0 n (omega arith), lt-ltb 1 n (omega arith), lt-ltb 2 n (omega arith), lt-ltb 3 n (omega arith), lt-ltb 4 n (omega arith));
   differ = refl;
 }
 
-pub Exact-deal : (n : ℕ) → 5 ≤ n → n ≤ 53 → Exact deal_text (IsDeal n) (deal_at n)
+pub Exact-deal : (n : ℕ) → 5 ≤ n → n ≤ 53 → Exact deal_text (AreDealtCards n) (deal_at n)
 unfolding deal_text deal_at
 Exact-deal n least most =
-    Exact-line (λ (cards : List ℕ). codes "deal" ∷ map card_text cards) (IsDeal n) (deal_of n)
+    Exact-line (λ (cards : List ℕ). codes "deal" ∷ map card_text cards) (AreDealtCards n) (deal_of n)
     (record { takes = λ words cards read. deal_taken n words cards read; again = λ cards is. deal_again n cards most is })
     (0 ∷ 1 ∷ 2 ∷ 3 ∷ 4 ∷ []) (first_cards n least)
 
@@ -105,16 +106,16 @@ abbrev in_hand : List ℕ × Feed → Result (List ℕ × Feed) ℕ
 in_hand x = Ok (in_order x.0, x.1)
 
 pub refused_deal : (n : ℕ) (result : Result (List ℕ) Refused) (before left : Feed) → 5 ≤ n → n ≤ 53 → Gives (λ (h : List ℕ). h) result left (hand_at n before)
-    → IfErr result (λ e. Refuses deal_text (IsDeal n) before e.line)
+    → IfErr result (λ e. Refuses deal_text (AreDealtCards n) before e.line)
 refused_deal n (Ok hand) before left least most gives = tt
 refused_deal n (Err e) before left least most gives = stopped (bind_err (deal_at n before) _ _ (sym (hand_at-is n before) ∙ gives))
   where
-    stopped : ((deal_at n before ≡ Err e.line) ⊎ ((x : List ℕ × Feed) × (deal_at n before ≡ Ok x) × (in_hand x ≡ Err e.line))) → Refuses deal_text (IsDeal n) before e.line
+    stopped : ((deal_at n before ≡ Err e.line) ⊎ ((x : List ℕ × Feed) × (deal_at n before ≡ Ok x) × (in_hand x ≡ Err e.line))) → Refuses deal_text (AreDealtCards n) before e.line
     stopped (inl is) = (Exact-deal n least most).stops before e.line is
     stopped (inr (x, is, never)) = absurd cc
 
 pub only_deal : (n : ℕ) (result : Result (List ℕ) Refused) (before left : Feed) → 5 ≤ n → n ≤ 53 → Gives (λ (h : List ℕ). h) result left (hand_at n before)
-    → (cards : List ℕ) (rest : Feed) → IsDeal n cards → Starts deal_text before cards rest → (result ≡ Ok (in_order cards)) × (left ≡ rest)
+    → (cards : List ℕ) (rest : Feed) → AreDealtCards n cards → Starts deal_text before cards rest → (result ≡ Ok (in_order cards)) × (left ≡ rest)
 only_deal n result before left least most gives cards rest is starts =
     let read : deal_at n before ≡ Ok (cards, rest) = (Exact-deal n least most).again before rest cards is starts
     in let hand : hand_at n before ≡ Ok (in_order cards, rest) = hand_at-is n before ∙ (rw read)

@@ -6,7 +6,8 @@ use Rattle.std.proofs.lemmas.Bool.Decides.{nat_tests}
 use Rattle.std.proofs.lemmas.Slice.Eq.{bytes_eq-Decides}
 use Rattle.vp_card.specs.Cards.{is_rank_set}
 use Rattle.vp_card.specs.Texts.{rank_set_text}
-use Rattle.vp_text.specs.Lines.{Word, next_is}
+use Rattle.vp_text.specs.Lines.{Word}
+use Rattle.vp_text.specs.Reading.{next_is}
 use Rattle.vp_pay.specs.declared.pattern.Pattern.{Pattern}
 use Rattle.vp_pay.specs.declared.pattern.Pattern.TheVariants.{Royal, StraightFlush, FiveKind, Wilds, Quads, FullHouse, Flush, Straight, Trips, TwoPair, Pair}
 use Rattle.vp_text.specs.Pieces.{ExactPiece}

@@ -7,8 +7,8 @@ use Rattle.std.proofs.lemmas.Bool.{leb-true, le-leb}
 use Rattle.std.proofs.lemmas.List.{append-nil, length-replicate, length-take-le, take-append-drop}
 use Rattle.std.proofs.lemmas.List.Folds.{list_all-append}
 use Rattle.std.proofs.Math.Seq.{take-append_seam, drop-append_seam}
+use Rattle.vp_text.specs.ExactReaders.{ExactText}
 use Rattle.vp_text.specs.Lines.{Word}
-use Rattle.vp_text.specs.Sections.{ExactLine}
 use Rattle.vp_pay.specs.declared.pattern.Qualifier.{Qualifier}
 use Rattle.vp_pay.specs.declared.pattern.Qualifier.TheVariants.{Either, Natural, Wild}
 use Rattle.vp_pay.specs.declared.table.PayLine.{PayLine}
@@ -120,7 +120,7 @@ line_again coins line few is =
     Exact-pattern.again rest line.pattern is.pattern (qualifier_no_kicker line.qualifier (map decimal (take coins line.pays)))
     in rw (Exact-name.again line.name is.name, pattern, Exact-qualifier.again line.qualifier tt, pays)
 
-pub Exact-pay_line : (coins : ℕ) → coins ≤ 5 → ExactLine (line_words coins) (IsPayLine coins) (pay_line_of coins)
+pub Exact-pay_line : (coins : ℕ) → coins ≤ 5 → ExactText (line_words coins) (IsPayLine coins) (pay_line_of coins)
 Exact-pay_line coins few = record {
   takes = λ words line read. line_taken coins words line few read;
   again = λ line is. line_again coins line few is;

@@ -1,17 +1,16 @@
--- The words of a pay table are plain: none has a blank, a line feed, a carriage return or a `#`.
-use Rattle.std.proofs.Common.{◌≡◌, ℕ, zero, suc, ◌+◌, ◌^◌, ◌/◌, ◌%◌, ◌≤◌, ◌<◌, Bool, true, false, cond, ◌&&◌, ◌==◌, nat_le, eqb, List, [], ◌∷◌, ◌++◌, map, length, take, get_or, refl, ap, sym, ◌∙◌, arith, Some, None, IfSome, IsTrue, subst}
+-- The words of a pay table, and the texts of cards, are plain: none has a blank, a line feed, a carriage return or a `#`.
+use Rattle.std.proofs.Common.{◌≡◌, ℕ, ◌^◌, ◌/◌, ◌%◌, ◌≤◌, ◌<◌, Bool, true, false, cond, ◌&&◌, ◌==◌, nat_le, List, [], ◌∷◌, ◌++◌, map, length, take, get_or, refl, ap, sym, ◌∙◌, arith, Some, None, IfSome, inl, inr}
 use Rattle.std.specs.Prelude.{Option, codes}
 use Rattle.std.specs.List.{list_all, AllByRecursion}
 use Rattle.std.specs.Fmt.{decimal}
-use Rattle.std.specs.Int.Digits.{digits_of}
-use Rattle.std.proofs.lemmas.Fmt.{decimal_digit, decimal-digits_of, decimal_nonempty}
+use Rattle.std.proofs.lemmas.Bool.{cases_lt, lt-ltb, le-ltb}
 use Rattle.std.proofs.lemmas.Bool.Decides.{nat_tests}
 use Rattle.vp_card.specs.Cards.{held, is_rank_set}
-use Rattle.vp_card.specs.Texts.{rank_letters, any_text, rank_set_text}
+use Rattle.vp_card.specs.Texts.{rank_letters, suit_letters, joker_text, card_text, any_text, rank_set_text}
 use Rattle.vp_card.specs.Reading.{rank_set_of}
 use Rattle.vp_card.proofs.RankSets.{rank_set_of-text}
 use Rattle.vp_text.specs.Lines.{Word}
-use Rattle.vp_text.specs.Written.{is_plain, IsPlainWord, IsPlainLine, IsPlainText}
+use Rattle.vp_text.specs.Written.{IsPlainWord, IsPlainLine, IsPlainText}
 use Rattle.vp_pay.specs.declared.pattern.Pattern.{Pattern}
 use Rattle.vp_pay.specs.declared.pattern.Pattern.TheVariants.{Royal, StraightFlush, FiveKind, Wilds, Quads, FullHouse, Flush, Straight, Trips, TwoPair, Pair}
 use Rattle.vp_pay.specs.declared.pattern.Qualifier.{Qualifier}
@@ -22,41 +21,11 @@ use Rattle.vp_pay.specs.Names.{is_letter, is_name_byte, is_name}
 use Rattle.vp_pay.specs.Spelling.{kicker_words, pattern_words, qualifier_word, wild_word, line_words, table_text}
 use Rattle.vp_pay.specs.Table.{is_kicker, is_pattern, IsPayLine, IsTable}
 use Rattle.vp_text.proofs.Pieces.{both_true}
+use Rattle.vp_text.proofs.PlainWords.{AreHigh, high_word, are_high, plain_key, high_at, plain_number, plain_words}
 use Rattle.vp_pay.proofs.PayLines.{unpadded}
 use Rattle.vp_pay.proofs.Tables.{of_all}
 
--- every byte of a table is `-` or above
-abbrev AreHigh : List ℕ → Type 0
-AreHigh bytes = AllByRecursion (λ byte. 45 ≤ byte) bytes
-
-high_plain : (byte : ℕ) → 45 ≤ byte → IsTrue (is_plain byte)
-high_plain byte high =
-    let space : eqb byte 32 ≡ false = grind (arith, nat_tests)
-    in let tab : eqb byte 9 ≡ false = grind (arith, nat_tests)
-    in let feed : eqb byte 10 ≡ false = grind (arith, nat_tests)
-    in let return : eqb byte 13 ≡ false = grind (arith, nat_tests)
-    in let comment : eqb byte 35 ≡ false = grind (arith, nat_tests)
-    in rw (space, tab, feed, return, comment)
-
-high_word : (word : Word) → 0 < length word → AreHigh word → IsPlainWord word
-high_word word some high = (some, all word high)
-  where
-    all : (bytes : List ℕ) → AreHigh bytes → AllByRecursion (λ byte. IsTrue (is_plain byte)) bytes
-    all [] are = tt
-    all (byte ∷ bytes) are = (high_plain byte are.0, all bytes are.1)
-
-are_high : (bytes : List ℕ) → list_all (λ byte. nat_le 45 byte) bytes ≡ true → AreHigh bytes
-are_high [] is = tt
-are_high (byte ∷ bytes) is =
-    let parts = both_true (nat_le 45 byte) (list_all (λ b. nat_le 45 b) bytes) is
-    in let here : 45 ≤ byte = grind (arith, nat_tests)
-    in (here, are_high bytes parts.1)
-
--- a word of the language itself
-key : (word : Word) → 0 < length word → list_all (λ byte. nat_le 45 byte) word ≡ true → IsPlainWord word
-key word some is = high_word word some (are_high word is)
-
--- ---- names and numbers
+-- ---- names
 
 name_byte : (byte : ℕ) → is_name_byte byte ≡ true → 45 ≤ byte
 name_byte byte is = grind (arith, nat_tests)
@@ -76,17 +45,6 @@ plain_name (byte ∷ bytes) is =
     let parts = both_true (is_letter byte && list_all is_name_byte bytes) (nat_le (length bytes) 23) is
     in let front = both_true (is_letter byte) (list_all is_name_byte bytes) parts.0
     in high_word (byte ∷ bytes) (omega arith) (letter_high byte front.0, name_bytes_high bytes front.1)
-
-digits_high : (ds : List ℕ) → AreHigh (map (λ d. 48 + d) ds)
-digits_high [] = tt
-digits_high (d ∷ ds) = (omega arith, digits_high ds)
-
-decimal_high : (n : ℕ) → n < 2 ^ 64 → AreHigh (decimal n)
-decimal_high zero below = subst AreHigh (sym (decimal_digit 0 (omega arith))) (omega arith, tt)
-decimal_high (suc n) below = subst AreHigh (sym (decimal-digits_of (suc n) (omega arith) below)) (digits_high (digits_of 10 (suc n)))
-
-plain_number : (n : ℕ) → n < 2 ^ 64 → IsPlainWord (decimal n)
-plain_number n below = high_word (decimal n) (decimal_nonempty n below) (decimal_high n below)
 
 -- ---- sets of ranks
 
@@ -131,7 +89,7 @@ plain_set set is = high_word (rank_set_text set) (some_set set is (rank_set_text
 
 plain_kicker : (kicker : Option ℕ) → is_kicker kicker ≡ true → AllByRecursion IsPlainWord (kicker_words kicker)
 plain_kicker None is = tt
-plain_kicker (Some set) is = (key (codes "kicker") (omega arith) refl, (plain_set set is, tt))
+plain_kicker (Some set) is = (plain_key (codes "kicker") (omega arith) refl, (plain_set set is, tt))
 
 five_small : (n : ℕ) → n ≤ 5 → n < 2 ^ 64
 five_small n small = omega arith
@@ -139,39 +97,35 @@ five_small n small = omega arith
 plain_wilds : (count : ℕ) (kicker : Option ℕ) → is_pattern (Wilds count kicker) ≡ true → AllByRecursion IsPlainWord (pattern_words (Wilds count kicker))
 plain_wilds count None is =
     let small : count ≤ 5 = grind (arith, nat_tests)
-    in (key (codes "wilds") (omega arith) refl, (plain_number count (five_small count small), tt))
+    in (plain_key (codes "wilds") (omega arith) refl, (plain_number count (five_small count small), tt))
 plain_wilds count (Some set) is =
     let parts = both_true (count == 4) (is_rank_set set) is
     in let small : count ≤ 5 = grind (arith, nat_tests)
-    in (key (codes "wilds") (omega arith) refl, (plain_number count (five_small count small), plain_kicker (Some set) parts.1))
+    in (plain_key (codes "wilds") (omega arith) refl, (plain_number count (five_small count small), plain_kicker (Some set) parts.1))
 
 plain_pattern : (pattern : Pattern) → is_pattern pattern ≡ true → AllByRecursion IsPlainWord (pattern_words pattern)
-plain_pattern Royal is = (key (codes "royal") (omega arith) refl, tt)
-plain_pattern StraightFlush is = (key (codes "straight-flush") (omega arith) refl, tt)
-plain_pattern (FiveKind set) is = (key (codes "five-kind") (omega arith) refl, (plain_set set is, tt))
+plain_pattern Royal is = (plain_key (codes "royal") (omega arith) refl, tt)
+plain_pattern StraightFlush is = (plain_key (codes "straight-flush") (omega arith) refl, tt)
+plain_pattern (FiveKind set) is = (plain_key (codes "five-kind") (omega arith) refl, (plain_set set is, tt))
 plain_pattern (Wilds count kicker) is = plain_wilds count kicker is
 plain_pattern (Quads set kicker) is =
     let parts = both_true (is_rank_set set) (is_kicker kicker) is
-    in (key (codes "quads") (omega arith) refl, (plain_set set parts.0, plain_kicker kicker parts.1))
-plain_pattern FullHouse is = (key (codes "full-house") (omega arith) refl, tt)
-plain_pattern Flush is = (key (codes "flush") (omega arith) refl, tt)
-plain_pattern Straight is = (key (codes "straight") (omega arith) refl, tt)
-plain_pattern Trips is = (key (codes "trips") (omega arith) refl, tt)
-plain_pattern TwoPair is = (key (codes "two-pair") (omega arith) refl, tt)
-plain_pattern (Pair set) is = (key (codes "pair") (omega arith) refl, (plain_set set is, tt))
+    in (plain_key (codes "quads") (omega arith) refl, (plain_set set parts.0, plain_kicker kicker parts.1))
+plain_pattern FullHouse is = (plain_key (codes "full-house") (omega arith) refl, tt)
+plain_pattern Flush is = (plain_key (codes "flush") (omega arith) refl, tt)
+plain_pattern Straight is = (plain_key (codes "straight") (omega arith) refl, tt)
+plain_pattern Trips is = (plain_key (codes "trips") (omega arith) refl, tt)
+plain_pattern TwoPair is = (plain_key (codes "two-pair") (omega arith) refl, tt)
+plain_pattern (Pair set) is = (plain_key (codes "pair") (omega arith) refl, (plain_set set is, tt))
 
 plain_qualifier : (qualifier : Qualifier) → IsPlainWord (qualifier_word qualifier)
-plain_qualifier Either = key (codes "either") (omega arith) refl
-plain_qualifier Natural = key (codes "natural") (omega arith) refl
-plain_qualifier Wild = key (codes "wild") (omega arith) refl
+plain_qualifier Either = plain_key (codes "either") (omega arith) refl
+plain_qualifier Natural = plain_key (codes "natural") (omega arith) refl
+plain_qualifier Wild = plain_key (codes "wild") (omega arith) refl
 
 plain_payments : (pays : List ℕ) → AllByRecursion (λ pay. pay ≤ 500000) pays → AllByRecursion IsPlainWord (map decimal pays)
 plain_payments [] all = tt
 plain_payments (pay ∷ pays) all = (plain_number pay (omega (arith, all.0)), plain_payments pays all.1)
-
-plain_append : (front back : List Word) → AllByRecursion IsPlainWord front → AllByRecursion IsPlainWord back → AllByRecursion IsPlainWord (front ++ back)
-plain_append [] back f b = b
-plain_append (word ∷ front) back f b = (f.0, plain_append front back f.1 b)
 
 plain_line : (coins : ℕ) (line : PayLine) → coins ≤ 5 → IsPayLine coins line → IsPlainLine (line_words coins line)
 unfolding line_words
@@ -180,30 +134,25 @@ plain_line coins line few is =
     in (
       omega arith,
       (
-        key (codes "line") (omega arith) refl,
+        plain_key (codes "line") (omega arith) refl,
         (
           plain_name line.name is.name,
-          plain_append (pattern_words line.pattern) (qualifier_word line.qualifier ∷ map decimal (take coins line.pays)) (plain_pattern line.pattern is.pattern)
+          plain_words (pattern_words line.pattern) (qualifier_word line.qualifier ∷ map decimal (take coins line.pays)) (plain_pattern line.pattern is.pattern)
               (plain_qualifier line.qualifier, plain_payments (take coins line.pays) pays.0.all),
         ),
       ),
     )
-
-letter_at : (letters : List ℕ) (i : ℕ) → i < length letters → AreHigh letters → 45 ≤ get_or letters i 0
-letter_at [] i inside high = absurd (omega arith)
-letter_at (letter ∷ letters) zero inside high = high.0
-letter_at (letter ∷ letters) (suc i) inside high = letter_at letters i (omega arith) high.1
 
 thirteen : length rank_letters ≡ 13
 unfolding rank_letters
 thirteen = refl
 
 plain_wild : (wild : Option ℕ) → IfSome wild (λ rank. rank < 13) → IsPlainWord (wild_word wild)
-plain_wild None is = key (codes "none") (omega arith) refl
-plain_wild (Some rank) is = high_word (get_or rank_letters rank 0 ∷ []) (omega arith) (letter_at rank_letters rank (omega (arith, thirteen, is)) letters_high, tt)
+plain_wild None is = plain_key (codes "none") (omega arith) refl
+plain_wild (Some rank) is = high_word (get_or rank_letters rank 0 ∷ []) (omega arith) (high_at rank_letters rank (omega (arith, thirteen, is)) letters_high, tt)
 
 plain_lines : (coins : ℕ) (lines : List PayLine) → coins ≤ 5 → AllByRecursion (IsPayLine coins) lines → AllByRecursion IsPlainLine (map (line_words coins) lines ++ (codes "end" ∷ []) ∷ [])
-plain_lines coins [] few all = ((omega arith, (key (codes "end") (omega arith) refl, tt)), tt)
+plain_lines coins [] few all = ((omega arith, (plain_key (codes "end") (omega arith) refl, tt)), tt)
 plain_lines coins (line ∷ lines) few all = (plain_line coins line few all.0, plain_lines coins lines few all.1)
 
 two : (first second : Word) → IsPlainWord first → IsPlainWord second → IsPlainLine (first ∷ second ∷ [])
@@ -212,15 +161,36 @@ two first second a b = (omega arith, (a, (b, tt)))
 pub plain_table : (t : PayTable) → IsTable t → IsPlainText (table_text t)
 unfolding table_text
 plain_table t is = (
-  two (codes "table") t.name (key (codes "table") (omega arith) refl) (plain_name t.name is.name),
+  two (codes "table") t.name (plain_key (codes "table") (omega arith) refl) (plain_name t.name is.name),
   (
-    two (codes "deck") (decimal t.deck) (key (codes "deck") (omega arith) refl) (plain_number t.deck (omega (arith, is.greatest_deck))),
+    two (codes "deck") (decimal t.deck) (plain_key (codes "deck") (omega arith) refl) (plain_number t.deck (omega (arith, is.greatest_deck))),
     (
-      two (codes "wild") (wild_word t.wild) (key (codes "wild") (omega arith) refl) (plain_wild t.wild is.wild),
+      two (codes "wild") (wild_word t.wild) (plain_key (codes "wild") (omega arith) refl) (plain_wild t.wild is.wild),
       (
-        two (codes "coins") (decimal t.coins) (key (codes "coins") (omega arith) refl) (plain_number t.coins (omega (arith, is.most_coins))),
+        two (codes "coins") (decimal t.coins) (plain_key (codes "coins") (omega arith) refl) (plain_number t.coins (omega (arith, is.most_coins))),
         plain_lines t.coins t.lines.items is.most_coins (of_all (IsPayLine t.coins) t.lines.items is.lines),
       ),
     ),
   ),
 )
+
+-- ---- cards
+
+suits_high : AreHigh suit_letters
+unfolding suit_letters
+suits_high = are_high suit_letters refl
+
+four : length suit_letters ≡ 4
+unfolding suit_letters
+four = refl
+
+-- a card's text
+pub plain_card : (card : ℕ) → IsPlainWord (card_text card)
+unfolding card_text joker_text
+plain_card card = elim (cases_lt card 52) [
+  | inl natural ↦
+      let rank_byte : 45 ≤ get_or rank_letters (card / 4) 0 = high_at rank_letters (card / 4) (omega (arith, thirteen)) letters_high in
+      let suit_byte : 45 ≤ get_or suit_letters (card % 4) 0 = high_at suit_letters (card % 4) (omega (arith, four)) suits_high in
+      rw (lt-ltb card 52 natural) (high_word (get_or rank_letters (card / 4) 0 ∷ get_or suit_letters (card % 4) 0 ∷ []) (omega arith) (rank_byte, (suit_byte, tt)))
+  | inr joker ↦ rw (le-ltb card 52 joker) (plain_key (codes "Jo") (omega arith) refl)
+]

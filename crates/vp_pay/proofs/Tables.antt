@@ -8,7 +8,8 @@ use Rattle.std.proofs.lemmas.List.{append-nil, length-replicate}
 use Rattle.std.proofs.lemmas.Bool.{leb-true, le-leb}
 use Rattle.std.proofs.lemmas.Bool.Decides.{nat_tests}
 use Rattle.vp_text.specs.Lines.{Word, Feed}
-use Rattle.vp_text.specs.Sections.{Text, Exact, ExactLine, Starts, Refuses, Keeps, Closes, AreClosed, closed_text, both_text, AreBoth}
+use Rattle.vp_text.specs.Sections.{Text, Starts, Refuses, both_text, AreBoth}
+use Rattle.vp_text.specs.ExactReaders.{Exact, Keeps, Closes, AreClosed, closed_text, ExactText}
 use Rattle.vp_text.specs.Reading.{Gives}
 use Rattle.vp_text.specs.declared.refused.Refused.{Refused}
 use Rattle.vp_text.proofs.Sections.{Exact-line}
@@ -58,7 +59,7 @@ next_again coins front line few is =
     let room : nat_lt (length front) 32 ≡ true = grind (arith, nat_tests, is.room)
     in rw ((Exact-pay_line coins few).again line is.pay_line, room, is.other)
 
-Exact-next_line : (coins : ℕ) → coins ≤ 5 → (front : List PayLine) → ExactLine (line_words coins) (MayFollow coins front) (next_line_of coins front)
+Exact-next_line : (coins : ℕ) → coins ≤ 5 → (front : List PayLine) → ExactText (line_words coins) (MayFollow coins front) (next_line_of coins front)
 Exact-next_line coins few front = record {
   takes = λ words line read. next_taken coins front words line few read;
   again = λ line is. next_again coins front line few is;

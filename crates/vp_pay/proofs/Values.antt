@@ -8,23 +8,23 @@ use Rattle.vp_card.specs.Texts.{rank_set_text, rank_letters}
 use Rattle.vp_card.specs.Reading.{rank_of, rank_set_of}
 use Rattle.vp_card.proofs.RankSets.{rank_set_of-text, text-rank_set_of}
 use Rattle.vp_card.proofs.Texts.{rank_of-letter, rank_of-again}
+use Rattle.vp_text.specs.ExactReaders.{ExactText}
 use Rattle.vp_text.specs.Lines.{Word}
 use Rattle.vp_pay.specs.declared.pattern.Pattern.{Pattern}
 use Rattle.vp_pay.specs.declared.pattern.Pattern.TheVariants.{Royal, StraightFlush, FullHouse, Flush, Straight, Trips, TwoPair}
 use Rattle.vp_pay.specs.declared.pattern.Qualifier.{Qualifier}
 use Rattle.vp_pay.specs.declared.pattern.Qualifier.TheVariants.{Either, Natural, Wild}
 use Rattle.vp_pay.specs.Names.{is_name}
-use Rattle.vp_text.specs.Pieces.{ExactWord}
 use Rattle.vp_pay.specs.Spelling.{qualifier_word, wild_word, pattern_words}
 use Rattle.vp_pay.specs.Reading.{name_of, deck_of, one_to_five, payment_of, letter_of_rank, wild_of, qualifier_of, plain_of}
 use Rattle.vp_pay.specs.Table.{is_pattern}
 use Rattle.vp_text.proofs.Numbers.{number_within_exact}
 use Rattle.vp_text.proofs.Pieces.{by_key, chosen, same_value, no_value}
 
-pub Exact-rank_set : ExactWord rank_set_text (λ set. is_rank_set set ≡ true) rank_set_of
+pub Exact-rank_set : ExactText rank_set_text (λ set. is_rank_set set ≡ true) rank_set_of
 Exact-rank_set = record { takes = λ text set read. text-rank_set_of text set read; again = λ set is_set. rank_set_of-text set is_set }
 
-pub Exact-name : ExactWord (λ (name : Word). name) (λ name. is_name name ≡ true) name_of
+pub Exact-name : ExactText (λ (name : Word). name) (λ name. is_name name ≡ true) name_of
 unfolding name_of
 Exact-name = record {
   takes = λ text name read. chosen (λ n. (is_name n ≡ true) × (n ≡ text)) (is_name text) (Some text) None name read
@@ -32,7 +32,7 @@ Exact-name = record {
   again = λ name is. rw is;
 }
 
-pub Exact-deck : ExactWord decimal (λ deck. (52 ≤ deck) × (deck ≤ 53)) deck_of
+pub Exact-deck : ExactText decimal (λ deck. (52 ≤ deck) × (deck ≤ 53)) deck_of
 unfolding deck_of digits
 Exact-deck = record {
   takes = λ text deck read.
@@ -43,10 +43,10 @@ Exact-deck = record {
 
 -- ---- numbers
 
-pub Exact-one_to_five : ExactWord decimal (λ n. (1 ≤ n) × (n ≤ 5)) one_to_five
+pub Exact-one_to_five : ExactText decimal (λ n. (1 ≤ n) × (n ≤ 5)) one_to_five
 Exact-one_to_five = number_within_exact 1 5 (omega arith)
 
-pub Exact-payment : ExactWord decimal (λ pay. pay ≤ 500000) payment_of
+pub Exact-payment : ExactText decimal (λ pay. pay ≤ 500000) payment_of
 Exact-payment =
     let exact = number_within_exact 0 500000 (omega arith)
     in record {
@@ -80,7 +80,7 @@ unfolding wild_of
 wild_again None is = refl
 wild_again (Some rank) is = rw (none_no_letter rank, rank_of-again rank is)
 
-pub Exact-wild : ExactWord wild_word (λ wild. IfSome wild (λ rank. rank < 13)) wild_of
+pub Exact-wild : ExactText wild_word (λ wild. IfSome wild (λ rank. rank < 13)) wild_of
 unfolding wild_of
 Exact-wild = record {
   takes = λ text wild read.
@@ -96,7 +96,7 @@ qualifier_again Either = refl
 qualifier_again Natural = refl
 qualifier_again Wild = refl
 
-pub Exact-qualifier : ExactWord qualifier_word (λ q. Unit {0}) qualifier_of
+pub Exact-qualifier : ExactText qualifier_word (λ q. Unit {0}) qualifier_of
 unfolding qualifier_of
 Exact-qualifier = record {
   takes = λ text q read.

@@ -3,7 +3,8 @@ use Rattle.std.specs.Prelude.{ℕ, ◌-◌, Bool, not, ◌&&◌, ◌==◌, nat_l
 use Rattle.std.specs.List.{list_any}
 use Rattle.vp_card.specs.Cards.{in_deck, all_differ, in_order}
 use Rattle.vp_card.specs.Reading.{rank_of, rank_set_of, card_of}
-use Rattle.vp_text.specs.Lines.{Word, next_is}
+use Rattle.vp_text.specs.Lines.{Word}
+use Rattle.vp_text.specs.Reading.{next_is}
 use Rattle.vp_text.specs.Numbers.{number_within}
 use Rattle.vp_text.specs.Pieces.{Piece, ◌>>=◌, one_word, so_many, key_word, ended}
 use Rattle.vp_pay.specs.Names.{is_name}

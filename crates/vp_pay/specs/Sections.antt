@@ -1,7 +1,7 @@
--- How the sections of pay tables and of deals are read, and which are valid.
+-- How the sections of pay tables and of deals are read.
 use Rattle.std.specs.Prelude.{ℕ, Bool, nat_le, List, length, Option, Some, None, Result, Ok, Err, ◌⊎◌, codes}
 use Rattle.vp_text.specs.Lines.{Word, Feed}
-use Rattle.vp_text.specs.Sections.{Reader}
+use Rattle.vp_text.specs.ExactReaders.{Reader}
 use Rattle.vp_text.specs.Reading.{one_line, both, mapped, closed, closed_by}
 use Rattle.vp_text.specs.Pieces.{keyed}
 use Rattle.vp_pay.specs.Reading.{name_of, deck_of, wild_of, one_to_five, next_line_of, deal_of, hand_of}

@@ -1,18 +1,18 @@
 //! The deal line: five different cards of the deck, in any order.
 
-ghost use Rattle.std.specs.Prelude.{◌≡◌, ℕ, ◌≤◌, List, Ok, IfOk, IfErr};
-ghost use Rattle.vp_card.specs.Cards.{in_deck, in_order};
+ghost use Rattle.std.specs.Prelude.{◌≡◌, ℕ, ◌≤◌, List, ◌++◌, Ok, IfOk, IfErr};
+ghost use Rattle.vp_card.specs.Cards.{in_order};
 ghost use Rattle.vp_card.specs.Reading.{card_of};
 ghost use Rattle.vp_text.specs.Lines.{Feed};
-ghost use Rattle.vp_text.specs.Sections.{Starts, Refuses, Leaves, IsAt, StandsBehind};
+ghost use Rattle.vp_text.specs.Sections.{Text, Starts, Refuses, Leaves, IsAt, StandsBehind};
 ghost use Rattle.vp_text.specs.Reading.{Gives};
 ghost use Rattle.vp_text.specs.Pieces.{Takes, one_word, so_many};
 ghost use Rattle.vp_pay.specs.Reading.{hand_of};
 ghost use Rattle.vp_pay.specs.Sections.{hand_at};
 ghost use Rattle.vp_pay.specs.Spelling.{deal_text};
-ghost use Rattle.vp_pay.specs.Deal.{IsDeal, IsDealt};
+ghost use Rattle.vp_pay.specs.Deal.{AreDealtCards, IsDealt};
 
-use vp_card::{Card, Hand};
+use vp_card::{Card, Hand, in_deck};
 use vp_text::{Lines, Refused, Words, key_word};
 
 /// Takes the next word, which is to be a card's text.
@@ -24,8 +24,10 @@ pub fn next_card(words: &mut Words) -> Option<Card>
     Card::read(word)
 }
 
-fn five_cards(words: &mut Words) -> Option<[Card; 5]>
-    ensures { Takes (λ cards. cards) result words.new.words (so_many card_of 5 words.old.words) }
+/// Takes the next five words, which are to be cards' texts; the cards may repeat and stand in any order.
+pub fn five_cards(words: &mut Words) -> Option<[Card; 5]>
+    ensures line { words.new.line ≡ words.old.line }
+    ensures takes { Takes (λ cards. cards) result words.new.words (so_many card_of 5 words.old.words) }
 {
     let first = next_card(words)?;
     let second = next_card(words)?;
@@ -35,19 +37,13 @@ fn five_cards(words: &mut Words) -> Option<[Card; 5]>
     Some([first, second, third, fourth, fifth])
 }
 
-fn in_deck(deck: u8, cards: &[Card]) -> bool
-    ensures { result ≡ in_deck deck cards.now }
-{
-    cards.iter().all(|card| card.number() < deck)
-}
-
 #[tactic(auto, unfolding(crate::specs::Reading::hand_of, crate::specs::Reading::deal_of))]
 fn hand_of(words: &mut Words, deck: u8) -> Option<Hand>
     ensures { result ≡ hand_of deck words.old.words }
 {
     key_word(words, b"deal")?;
     let cards = five_cards(words)?;
-    if words.next().is_some() || !in_deck(deck, &cards) {
+    if words.next().is_some() || !in_deck(&cards, deck) {
         return None;
     }
     Hand::of(cards)
@@ -59,14 +55,9 @@ fn hand_at(lines: &mut Lines, deck: u8) -> Result<Hand, Refused>
     ensures leaves { Leaves lines.old lines.new }
     ensures at { IfErr result (λ e. IsAt e.line lines.new) }
 {
-    let Some(mut words) = lines.next() else {
-        return Err(Refused { line: lines.past() });
-    };
+    let mut words = lines.next_wanted()?;
     let line = words.line();
-    match hand_of(&mut words, deck) {
-        Some(hand) => Ok(hand),
-        None => Err(Refused { line }),
-    }
+    hand_of(&mut words, deck).ok_or(Refused { line })
 }
 
 /// Reads a deal line of five different cards of a deck of so many, in any order.
@@ -76,12 +67,17 @@ pub fn read_deal(lines: &mut Lines, deck: u8) -> Result<Hand, Refused>
     // What is read is a deal's hand, and the deal's spelling stands in front of the lines that are left.
     ensures found { IfOk result (λ hand. IsDealt deck lines.old hand lines.new) }
     // A deal that is spelled so is read, whatever follows.
-    ensures only { (cards : List ℕ) (left : Feed) → IsDeal deck cards → Starts deal_text lines.old cards left → (result ≡ Ok (in_order cards)) × (lines.new ≡ left) }
+    ensures only { (cards : List ℕ) (left : Feed) → AreDealtCards deck cards → Starts deal_text lines.old cards left → (result ≡ Ok (in_order cards)) × (lines.new ≡ left) }
     // Refused is the line where it begins no deal line, or the one past the end where there is none.
-    ensures refused { IfErr result (λ e. Refuses deal_text (IsDeal deck) lines.old e.line) }
+    ensures refused { IfErr result (λ e. Refuses deal_text (AreDealtCards deck) lines.old e.line) }
     // Where a line is refused, the lines behind it are left; none are where the input ends first.
     ensures stands { IfErr result (λ e. StandsBehind lines.old e.line lines.new) }
     ensures exact { Gives (λ hand. hand) result lines.new (hand_at deck lines.old) }
 {
     hand_at(lines, deck)
 }
+
+/// Different deals, in the order of dealing, have different spellings, and no spelling begins another one.
+pub fn deal_spellings_differ()
+    ensures { (n : ℕ) (a b : List ℕ) (x y : Text) → 5 ≤ n → n ≤ 53 → AreDealtCards n a → AreDealtCards n b → deal_text a ++ x ≡ deal_text b ++ y → (a ≡ b) × (x ≡ y) }
+{}

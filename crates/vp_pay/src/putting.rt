@@ -19,7 +19,7 @@ fn add_card(out: &mut Out, card: Card)
     out.word(&card.text());
 }
 
-/// Appends the texts of the cards.
+/// Appends the texts of the cards, each as a word of two bytes.
 #[tactic(auto, using(vp_text::proofs::WithWords::words_next))]
 pub fn add_cards(out: &mut Out, cards: &[Card])
     requires { length out.old + 3 * length cards.now < 512 }
@@ -31,18 +31,17 @@ pub fn add_cards(out: &mut Out, cards: &[Card])
     }
 }
 
-/// Appends the texts of the five cards of a hand.
+/// Appends the texts of the five cards of a hand, rising.
 #[tactic(auto, using(crate::proofs::Cards::held_all))]
 pub fn add_hand(out: &mut Out, hand: &Hand)
     requires { length out.old + 15 < 512 }
     ensures words { out.new ≡ with_words out.old (map card_text hand.now) }
     ensures room { length out.new ≤ length out.old + 15 }
 {
-    let _ = hand.numbers();
     add_cards(out, &hand.held(31));
 }
 
-/// Puts the line, which is then empty again.
+/// Puts the line with its line feed. It is empty afterwards, also where the write failed.
 pub fn put_line<K: Sink>(out: &mut Out, sink: &mut K) -> Result<(), WriteFault>
     ensures puts { Puts (K.taken sink.old) (K.taken sink.new) (K.faults sink.old) (K.faults sink.new) result (out.old ++ 10 ∷ []) }
     ensures empty { out.new ≡ [] }

@@ -1,4 +1,4 @@
-//! The sections of pay tables and of deals, read line by line.
+//! Pay tables, read line by line.
 
 ghost use Rattle.std.specs.Prelude.{◌≡◌, ◌<◌, ◌≤◌, codes, ◌++◌, Some, Ok, IfOk, IfErr, IfSome, length};
 ghost use Rattle.vp_text.specs.Reading.{Gives, one_line};
@@ -34,14 +34,9 @@ fn name_line(lines: &mut Lines) -> Result<Name, Refused>
     ensures leaves { Leaves lines.old lines.new }
     ensures at { IfErr result (λ e. IsAt e.line lines.new) }
 {
-    let Some(mut words) = lines.next() else {
-        return Err(Refused { line: lines.past() });
-    };
+    let mut words = lines.next_wanted()?;
     let line = words.line();
-    match table_name(&mut words) {
-        Some(name) => Ok(name),
-        None => Err(Refused { line }),
-    }
+    table_name(&mut words).ok_or(Refused { line })
 }
 
 fn deck(words: &mut Words) -> Option<u8>
@@ -61,14 +56,9 @@ fn deck_line(lines: &mut Lines) -> Result<u8, Refused>
     ensures leaves { Leaves lines.old lines.new }
     ensures at { IfErr result (λ e. IsAt e.line lines.new) }
 {
-    let Some(mut words) = lines.next() else {
-        return Err(Refused { line: lines.past() });
-    };
+    let mut words = lines.next_wanted()?;
     let line = words.line();
-    match deck(&mut words) {
-        Some(value) => Ok(value),
-        None => Err(Refused { line }),
-    }
+    deck(&mut words).ok_or(Refused { line })
 }
 
 fn wild(words: &mut Words) -> Option<Option<u8>>
@@ -88,14 +78,9 @@ fn wild_line(lines: &mut Lines) -> Result<Option<u8>, Refused>
     ensures leaves { Leaves lines.old lines.new }
     ensures at { IfErr result (λ e. IsAt e.line lines.new) }
 {
-    let Some(mut words) = lines.next() else {
-        return Err(Refused { line: lines.past() });
-    };
+    let mut words = lines.next_wanted()?;
     let line = words.line();
-    match wild(&mut words) {
-        Some(value) => Ok(value),
-        None => Err(Refused { line }),
-    }
+    wild(&mut words).ok_or(Refused { line })
 }
 
 fn coins(words: &mut Words) -> Option<u8>
@@ -117,14 +102,9 @@ fn coins_line(lines: &mut Lines) -> Result<u8, Refused>
     ensures at { IfErr result (λ e. IsAt e.line lines.new) }
     ensures range { IfOk result (λ coins. coins ≤ 5) }
 {
-    let Some(mut words) = lines.next() else {
-        return Err(Refused { line: lines.past() });
-    };
+    let mut words = lines.next_wanted()?;
     let line = words.line();
-    match coins(&mut words) {
-        Some(value) => Ok(value),
-        None => Err(Refused { line }),
-    }
+    coins(&mut words).ok_or(Refused { line })
 }
 
 /// Whether one of the lines has the name.

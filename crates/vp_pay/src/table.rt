@@ -1,8 +1,7 @@
 //! A pay table and its lines.
 
-ghost use Rattle.std.specs.Prelude.{◌≡◌, ◌<◌, ◌≤◌, length, bytes_eq, IfSome};
+ghost use Rattle.std.specs.Prelude.{◌≡◌, ◌<◌, length, bytes_eq, IfSome};
 ghost use Rattle.std.specs.List.{position};
-ghost use Rattle.vp_pay.specs.Table.{IsTable};
 
 use crate::{Name, Pattern, Qualifier};
 use arrayvec::ArrayVec;
@@ -33,7 +32,6 @@ pub struct PayTable {
 impl PayTable {
     /// The place of the line with this name, from 0; None where no line has it.
     pub fn position(&self, name: &[u8]) -> Option<u8>
-        requires { IsTable self.now }
         ensures value { result ≡ position (λ line. bytes_eq line.name name.now) self.now.lines.items }
         ensures below { IfSome result (λ place. place < length self.now.lines.items) }
     {

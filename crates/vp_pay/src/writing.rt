@@ -13,7 +13,7 @@ ghost use Rattle.vp_text.specs.Written.{with_word, with_words, line_of, written}
 ghost use Rattle.vp_card.specs.Texts.{rank_set_text};
 ghost use Rattle.vp_pay.specs.Table.{IsTable};
 
-use crate::{Pattern, PayLine, PayTable, Qualifier, put_line};
+use crate::{Name, Pattern, PayLine, PayTable, Qualifier, put_line};
 use vp_card::{RankSet, rank_letter};
 use vp_io::{Sink, WriteFault};
 use vp_text::Out;
@@ -175,6 +175,15 @@ fn put_two<K: Sink>(out: &mut Out, key: &[u8], word: &[u8], sink: &mut K) -> Res
     put_line(out, sink)
 }
 
+/// Puts the line of a table's name.
+fn put_name<K: Sink>(out: &mut Out, name: &Name, sink: &mut K) -> Result<(), WriteFault>
+    requires empty { out.old ≡ [] }
+    ensures puts { Puts (K.taken sink.old) (K.taken sink.new) (K.faults sink.old) (K.faults sink.new) result (line_of (codes "table" ∷ name.now ∷ [])) }
+    ensures empty { out.new ≡ [] }
+{
+    put_two(out, b"table", name.text(), sink)
+}
+
 /// Puts a line of a word and a number.
 #[tactic(auto, using(crate::proofs::Puts::Puts_line, vp_text::proofs::Room::length_with_word, vp_text::proofs::Room::length_decimal))]
 fn put_number<K: Sink>(out: &mut Out, key: &[u8], value: u8, sink: &mut K) -> Result<(), WriteFault>
@@ -218,7 +227,7 @@ fn put_table<K: Sink>(table: &PayTable, sink: &mut K) -> Result<(), WriteFault>
     ensures { Puts (K.taken sink.old) (K.taken sink.new) (K.faults sink.old) (K.faults sink.new) result (written (table_text table.now)) }
 {
     let mut out = Out::new();
-    put_two(&mut out, b"table", table.name.text(), sink)?;
+    put_name(&mut out, &table.name, sink)?;
     put_number(&mut out, b"deck", table.deck, sink)?;
     put_wild(&mut out, table.wild, sink)?;
     put_number(&mut out, b"coins", table.coins, sink)?;
