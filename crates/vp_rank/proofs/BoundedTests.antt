@@ -82,9 +82,3 @@ some_below-same n p q same =
     same_tests (some_below n p) (some_below n q)
     (λ h. let f : Below n p = some_below-to n p h in some_below-from n q f.at f.below (sym (same f.at f.below) ∙ f.holds))
     (λ h. let f : Below n q = some_below-to n q h in some_below-from n p f.at f.below (same f.at f.below ∙ f.holds))
-
-pub all_below-same : (n : ℕ) (p q : ℕ → Bool) → ((k : ℕ) → k < n → p k ≡ q k) → all_below n p ≡ all_below n q
-all_below-same n p q same =
-    same_tests (all_below n p) (all_below n q)
-    (λ h. all_below-from n q (λ k l. sym (same k l) ∙ all_below-at n p k h l))
-    (λ h. all_below-from n p (λ k l. same k l ∙ all_below-at n q k h l))

@@ -2,7 +2,7 @@
 use Rattle.std.proofs.Common.{◌≡◌, ◌≢◌, ℕ, ◌+◌, ◌*◌, ◌<◌, ◌≤◌, Bool, true, false, cond, not, eqb, ltb, List, [], ◌∷◌, ◌++◌, length, refl, sym, ap, ◌∙◌, subst, inl, inr, arith, Option}
 use Rattle.std.specs.Prelude.{replicate}
 use Rattle.std.specs.List.{count_by, filter, list_all}
-use Rattle.std.proofs.lemmas.List.Sums.{sum_by-cons, sum_by-append, length-filter, sum_by-le-sum_by}
+use Rattle.std.proofs.lemmas.List.Sums.{sum_by-cons, sum_by-append, length-filter}
 use Rattle.std.proofs.lemmas.List.Filters.{length-filter_both}
 use Rattle.std.proofs.lemmas.List.Folds.{sum_by-replicate}
 use Rattle.std.proofs.lemmas.Bool.{cases_Bool, lt-ltb, leb-false, and_from, or_parts}
@@ -32,10 +32,6 @@ pub count_no : (p : ℕ → Bool) (x : ℕ) (xs : List ℕ) → p x ≡ false �
 count_no p x xs e =
     let s : count_by p (x ∷ xs) ≡ 0 + count_by p xs = count_by-cons p x xs ∙ ap (λ (b : Bool). tally b + count_by p xs) e in
     omega (arith, s)
-
--- a count is at most as large as one with a wider test
-pub count_by-wider : (p q : ℕ → Bool) (xs : List ℕ) → ((x : ℕ) → tally (p x) ≤ tally (q x)) → count_by p xs ≤ count_by q xs
-count_by-wider p q xs h = sum_by-le-sum_by (λ x. tally (p x)) (λ x. tally (q x)) xs h
 
 -- the natural cards of a hand
 

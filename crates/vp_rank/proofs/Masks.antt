@@ -2,7 +2,7 @@
 use Rattle.std.proofs.Common.{◌≡◌, ℕ, ◌+◌, ◌*◌, ◌^◌, ◌%◌, ◌<◌, ◌≤◌, Bool, true, false, cond, ltb, eqb, refl, sym, ap, ◌∙◌, subst, inl, inr, arith, bit_or, w8, w16}
 use Rattle.std.specs.Int.{bit_at}
 use Rattle.std.proofs.lemmas.Nat.{or_lt}
-use Rattle.std.proofs.lemmas.Nat.Bits.{bit_at_set_same, bit_at_set_other, bit_at-zero}
+use Rattle.std.proofs.lemmas.Nat.Bits.{bit_at_set_same, bit_at_set_other}
 use Rattle.std.proofs.lemmas.Bool.{cases_eq, eq-eqb, ne_eqb, ltb-true}
 use Rattle.vp_rank.specs.Bounded.{all_below}
 use Rattle.vp_rank.specs.Shapes.{bit_of}
@@ -38,9 +38,6 @@ pub record WindowsBelow (n mask : ℕ) (fits : ℕ → Bool) : Type 0 where
   pub below : mask < 1024
   pub done : (k : ℕ) → k < n → bit_at mask k ≡ bit_of (fits k)
   pub rest : (k : ℕ) → n ≤ k → bit_at mask k ≡ 0
-
-pub windows_none : (fits : ℕ → Bool) → WindowsBelow 0 0 fits
-windows_none fits = record { below = omega arith; done = λ k l. absurd (omega arith); rest = λ k l. bit_at-zero k }
 
 pub windows_yes : (n mask : ℕ) (fits : ℕ → Bool) → n < 10 → fits n ≡ true → WindowsBelow n mask fits → WindowsBelow (n + 1) (bit_or mask (1 * 2 ^ n % 65536)) fits
 windows_yes n mask fits few passes before =

@@ -149,32 +149,26 @@ length-cards_of (suc n) test s =
           omega arith
     ]
 
-pub ranked-cards_of_none : (n : ℕ) (test : ℕ → Bool) (s r : ℕ) → s < 4 → n ≤ r → ranked r (cards_of n test s) ≡ 0
-ranked-cards_of_none zero test s r low past = ap (ranked r) (cards_of_none test s)
-ranked-cards_of_none (suc n) test s r low past =
-    let before : ranked r (cards_of n test s) ≡ 0 = ranked-cards_of_none n test s r low (omega arith) in
+-- the card of one rank adds nothing to the count of another
+ranked_other : (n : ℕ) (test : ℕ → Bool) (s r : ℕ) → s < 4 → (r ≡ n → ⊥) → ranked r (cards_of (suc n) test s) ≡ ranked r (cards_of n test s)
+ranked_other n test s r low ne =
     elim (cases_Bool (test n)) [
       | inl t ↦
-          let other : eqb (rank (4 * n + s)) r ≡ false = ne_eqb (rank (4 * n + s)) r (λ e. let f : rank (4 * n + s) ≡ n = rank_of n s low in omega arith) in
-          let more : ranked r ((4 * n + s) ∷ cards_of n test s) ≡ ranked r (cards_of n test s) = count_no (λ c. eqb (rank c) r) (4 * n + s) (cards_of n test s) other in
-          ap (ranked r) (cards_of_yes n test s t) ∙ more ∙ before
-      | inr f ↦ ap (ranked r) (cards_of_no n test s f) ∙ before
+          let other : eqb (rank (4 * n + s)) r ≡ false = ne_eqb (rank (4 * n + s)) r (λ e. ne (sym e ∙ rank_of n s low)) in
+          ap (ranked r) (cards_of_yes n test s t) ∙ count_no (λ c. eqb (rank c) r) (4 * n + s) (cards_of n test s) other
+      | inr f ↦ ap (ranked r) (cards_of_no n test s f)
     ]
+
+pub ranked-cards_of_none : (n : ℕ) (test : ℕ → Bool) (s r : ℕ) → s < 4 → n ≤ r → ranked r (cards_of n test s) ≡ 0
+ranked-cards_of_none zero test s r low past = ap (ranked r) (cards_of_none test s)
+ranked-cards_of_none (suc n) test s r low past = ranked_other n test s r low (λ e. omega arith) ∙ ranked-cards_of_none n test s r low (omega arith)
 
 pub ranked-cards_of : (n : ℕ) (test : ℕ → Bool) (s r : ℕ) → s < 4 → r < n → ranked r (cards_of n test s) ≡ tally (test r)
 ranked-cards_of zero test s r low below = absurd (omega arith)
 ranked-cards_of (suc n) test s r low below =
     elim (cases_eq r n) [
       | inl e ↦ subst (λ (x : ℕ). ranked x (cards_of (suc n) test s) ≡ tally (test x)) (sym e) (last n test s low)
-      | inr ne ↦
-          let before : ranked r (cards_of n test s) ≡ tally (test r) = ranked-cards_of n test s r low (omega arith) in
-          elim (cases_Bool (test n)) [
-            | inl t ↦
-                let other : eqb (rank (4 * n + s)) r ≡ false = ne_eqb (rank (4 * n + s)) r (λ e. let f : rank (4 * n + s) ≡ n = rank_of n s low in omega arith) in
-                let more : ranked r ((4 * n + s) ∷ cards_of n test s) ≡ ranked r (cards_of n test s) = count_no (λ c. eqb (rank c) r) (4 * n + s) (cards_of n test s) other in
-                ap (ranked r) (cards_of_yes n test s t) ∙ more ∙ before
-            | inr f ↦ ap (ranked r) (cards_of_no n test s f) ∙ before
-          ]
+      | inr ne ↦ ranked_other n test s r low ne ∙ ranked-cards_of n test s r low (omega arith)
     ]
   where
     last : (n : ℕ) (test : ℕ → Bool) (s : ℕ) → s < 4 → ranked n (cards_of (suc n) test s) ≡ tally (test n)

@@ -5,7 +5,6 @@ use Rattle.std.specs.List.{count_by}
 use Rattle.std.proofs.lemmas.List.{append-nil, take_more, get_or-set_same, get_or-set_other, length-set}
 use Rattle.std.proofs.lemmas.List.Elements.{filter-append}
 use Rattle.std.proofs.lemmas.List.Sums.{count_by-le-length, sum_by_push}
-use Rattle.std.proofs.lemmas.Nat.Bits.{bit_at-zero}
 use Rattle.std.proofs.lemmas.Bool.{cases_eq, eq-eqb, ne_eqb, lt-ltb}
 use Rattle.vp_card.specs.Cards.{rank, suit}
 use Rattle.vp_rank.specs.Counts.{ranked, suited}
@@ -97,20 +96,6 @@ shape_natural w cs c before after plain low is wilds_is counts_is below_is suits
             ];
       };
     }
-
--- the shape of no cards
-pub shape_none : (w : Option ℕ) (none : Shape) → none.wilds ≡ 0 → length none.counts ≡ 13 → ((r : ℕ) → r < 13 → slice_index none.counts r ≡ 0) → none.suits ≡ 0 → IsShape w [] none
-shape_none w none wilds_is ranks_is counts_is suits_is =
-    record {
-      wilds = wilds_is;
-      ranks = ranks_is;
-      counts = counts_is;
-      suits = subst (λ (m : ℕ). IsSuitMask m []) (sym suits_is) (record { below = omega arith; bits = λ s l. bit_at-zero s });
-    }
-
--- the cards of a shape bound its numbers
-pub wilds_bound : (w : Option ℕ) (cs : List ℕ) (s : Shape) → IsShape w cs s → s.wilds ≤ length cs
-wilds_bound w cs s is = let e : s.wilds ≡ wilds w cs = is.wilds in let b : wilds w cs ≤ length cs = count_by-le-length (is_wild w) cs in omega arith
 
 -- the shape of the cards up to the next one
 pub shape_next : (w : Option ℕ) (cards : List ℕ) (i c : ℕ) (s : Shape) → i < length cards → c ≡ get_or cards i c → IsShape w (take i cards ++ c ∷ []) s → IsShape w (take (i + 1) cards) s

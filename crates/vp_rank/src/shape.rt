@@ -20,7 +20,7 @@ pub struct Shape {
 }
 
 impl Shape {
-    /// The shape of at most five cards, of a table with this wild rank.
+    /// The shape of at most five cards. Besides jokers the cards of the wild rank are wild, 0 for twos to 12 for aces.
     pub fn of(cards: &[Card], wild: Option<u8>) -> Shape
         requires { length cards.now ≤ 5 }
         ensures { IsShape wild cards.now result }
@@ -53,7 +53,8 @@ impl Shape {
         self.suits |= 1 << (number % 4);
     }
 
-    /// The windows that have all ranks, where no rank repeats: bit `w` is set exactly where window `w` does.
+    /// The windows of five ranks in a row that have all ranks of the cards, where no rank repeats: bit `w` is set exactly
+    /// where window `w` does. Window 0 is A2345, and window 9 is TJQKA.
     pub fn windows(&self) -> u16
         ensures below { result < 1024 }
         ensures bits { (k : ℕ) → k < 10 → bit_at result k ≡ bit_of (fits_window k (count_of self.now)) }
@@ -78,7 +79,7 @@ impl Shape {
         })
     }
 
-    /// The greatest of the counts.
+    /// The greatest of the counts: of how many cards that are not wild the most frequent rank is.
     pub fn greatest(&self) -> u8
         ensures bound { All (λ x. x ≤ result) self.now.counts }
         ensures reached { Contains self.now.counts result }
@@ -101,7 +102,11 @@ fn in_a_window(window: u8, rank: u8) -> bool
     requires ranks { rank < 13 }
     ensures { result ≡ in_window window rank }
 {
-    (rank + 14 - window) % 13 < 5
+    if window == 0 {
+        rank == 12 || rank < 4
+    } else {
+        window - 1 <= rank && rank < window + 4
+    }
 }
 
 #[cfg(test)]
