@@ -2,8 +2,9 @@
 use Rattle.std.proofs.Common.{◌≡◌, inl, inr, ℕ, ◌+◌, ◌*◌, ◌/◌, ◌%◌, ◌<◌, ◌≤◌, ◌==◌, List, [], ◌∷◌, length, map, refl, ap, sym, ◌∙◌, arith, append-nil}
 use Rattle.std.proofs.lemmas.List.{length-map}
 use Rattle.std.proofs.lemmas.Bool.{cases_eq, cases_lt, eq-eqb, ne_eqb, lt-ltb, le-ltb}
-use Rattle.vp_sets.specs.Sets.{place, joined, times, IsRising}
-use Rattle.vp_sets.proofs.Rising.{times-place, times-joined, rising-joined, rising_same, times-rising, joined-rising, length-joined}
+use Rattle.vp_card.specs.Cards.{joined}
+use Rattle.vp_card.specs.Rising.{times, IsRising}
+use Rattle.vp_card.proofs.Rising.{times-joined, rising-joined, rising_same, times-rising, joined-rising, length-joined}
 use Rattle.vp_suit.specs.Turns.{turned_suit, turned, turn}
 use Rattle.vp_suit.proofs.Group.{suit_small, product, product_inside, suit_joined, inverse, inverse_inside, suit_back, suit_forth, suit_first}
 
@@ -88,9 +89,6 @@ turn-rising t cards l rising = rising-joined (map (λ card. turned t card) cards
 pub times-turn : (t : ℕ) (cards : List ℕ) (x : ℕ) → t < 24 → times x (turn t cards) ≡ times (turned (inverse t) x) cards
 unfolding turn
 times-turn t cards x l = omega (arith, times-joined x (map (λ card. turned t card) cards) [], times-mapped t cards x l)
-
-times_turned-place : (s x c : ℕ) (cards : List ℕ) → s < 24 → times x (map (λ card. turned s card) (place c cards)) ≡ times x (map (λ card. turned s card) (c ∷ cards))
-times_turned-place s x c cards l = times-mapped s (place c cards) x l ∙ times-place (turned (inverse s) x) c cards ∙ sym (times-mapped s (c ∷ cards) x l)
 
 times_product : (s t : ℕ) (cards : List ℕ) (x : ℕ) → s < 24 → t < 24 → times x (map (λ card. turned s card) (map (λ card. turned t card) cards)) ≡ times x (map (λ card. turned (product s t) card) cards)
 times_product s t [] x ls lt = refl

@@ -4,8 +4,9 @@ use Rattle.std.proofs.lemmas.Bool.{eq-eqb, eqb-true, ne_eqb}
 use Rattle.std.proofs.lemmas.Bool.Decides.{nat_tests}
 use Rattle.std.proofs.Math.Nat.{pow-suc, pow-zero}
 use Rattle.vp_card.specs.Cards.{held}
-use Rattle.vp_sets.specs.Sets.{has, times, IsBelow, IsRising}
-use Rattle.vp_sets.proofs.Rising.{rising_same, times-below}
+use Rattle.vp_card.specs.Rising.{times, IsBelow, IsRising}
+use Rattle.vp_sets.specs.Sets.{has}
+use Rattle.vp_card.proofs.Rising.{rising_same, times-below}
 use Rattle.vp_suit.specs.Turns.{turned, turn, mask_of, carried}
 use Rattle.vp_suit.proofs.Group.{inverse, inverse_inside}
 use Rattle.vp_suit.proofs.Cards.{turned_back, times-turn, turn-rising, turn-length, turn_back}

@@ -6,9 +6,10 @@ use Rattle.std.proofs.lemmas.Bool.{eq-eqb, eqb-true}
 use Rattle.std.proofs.lemmas.Bool.Decides.{same_from_decides}
 use Rattle.std.proofs.lemmas.List.{get_or-map, length-map, get_or_default}
 use Rattle.std.proofs.lemmas.List.Elements.{All-nil, All-cons, All-head, All-tail, All-from_get_or}
-use Rattle.vp_sets.specs.Sets.{deck, choose, combos, has, IsBelow, IsRising}
+use Rattle.vp_card.specs.Rising.{IsBelow, IsRising}
+use Rattle.vp_sets.specs.Sets.{deck, choose, combos, has}
 use Rattle.vp_sets.specs.Index.{set_index, colex}
-use Rattle.vp_sets.proofs.Rising.{rising_from}
+use Rattle.vp_card.proofs.Rising.{rising_from}
 use Rattle.vp_sets.proofs.Colex.{colex_count, increasing_from}
 use Rattle.vp_suit.specs.Turns.{turn}
 use Rattle.vp_suit.specs.Classes.{IsDeal, image_indexes, is_representative, least_turn, representative, weight, representatives}

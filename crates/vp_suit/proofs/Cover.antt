@@ -6,9 +6,10 @@ use Rattle.std.proofs.lemmas.Bool.{cases_eq, cases_lt, eq-eqb, ne_eqb}
 use Rattle.std.proofs.lemmas.List.Elements.{All-head, All-tail, All-map}
 use Rattle.std.proofs.lemmas.List.Sums.{sum_by-cons}
 use Rattle.std.proofs.Math.Nat.{add-mul, mul-le-mul_right}
-use Rattle.vp_sets.specs.Sets.{deck, choose, combos, has, times, IsRising}
+use Rattle.vp_card.specs.Rising.{times, IsRising}
+use Rattle.vp_sets.specs.Sets.{deck, choose, combos, has}
 use Rattle.vp_sets.specs.Index.{set_index}
-use Rattle.vp_sets.proofs.Rising.{rising_from, rising_same, times-rising, times-same}
+use Rattle.vp_card.proofs.Rising.{rising_from, rising_same, times-rising, times-same}
 use Rattle.vp_suit.specs.Turns.{turn}
 use Rattle.vp_suit.specs.Classes.{IsDeal, IsKept, image_indexes, is_representative, representative, weight, representatives}
 use Rattle.vp_suit.proofs.Below.{below, below-zero, below-suc, below-same, below-plus, below-none, below-one}

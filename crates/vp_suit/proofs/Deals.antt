@@ -1,14 +1,16 @@
 -- Deals by their indexes, and the sum over all deals by classes.
-use Rattle.std.proofs.Common.{◌≡◌, ℕ, zero, suc, ◌+◌, ◌*◌, ◌<◌, ◌≤◌, Bool, true, false, cond, nat_lt, List, [], ◌∷◌, length, map, filter, get_or, take, refl, ap, sym, subst, ◌∙◌, arith, add-one, sum_by}
+use Rattle.std.proofs.Common.{◌≡◌, ℕ, zero, suc, ◌+◌, ◌*◌, ◌<◌, ◌≤◌, Bool, true, false, cond, List, [], ◌∷◌, length, map, filter, get_or, take, refl, ap, sym, subst, ◌∙◌, arith, add-one, sum_by}
 use Rattle.std.proofs.lemmas.List.{take_all}
 use Rattle.std.proofs.lemmas.List.Sums.{sum_by_more, sum_by-cons}
-use Rattle.vp_sets.specs.Sets.{deck, choose, combos, place, joined, IsRising}
+use Rattle.vp_card.specs.Cards.{joined}
+use Rattle.vp_card.specs.Rising.{IsRising}
+use Rattle.vp_sets.specs.Sets.{deck, choose, combos}
 use Rattle.vp_sets.specs.Index.{set_index, index_from, colex}
-use Rattle.vp_sets.proofs.Rising.{rising_from}
-use Rattle.vp_sets.proofs.Colex.{Below, set_rises, set_below, set_from, index_lt, colex_count, numbered, at_index, sum_of_sets}
+use Rattle.vp_card.proofs.Rising.{rising_from}
+use Rattle.vp_sets.proofs.Colex.{Below, set_rises, set_below, set_from, index_lt, colex_count, numbered, at_index, sum_of_sets, place_below, index_is}
 use Rattle.vp_suit.specs.Turns.{turned, turn}
 use Rattle.vp_suit.specs.Images.{different, is_least}
-use Rattle.vp_suit.specs.Classes.{IsDeal, IsKept, image_indexes, is_representative, weight, representatives}
+use Rattle.vp_suit.specs.Classes.{IsDeal, IsKept, image_indexes, is_representative, weight, representatives, listed}
 use Rattle.vp_suit.proofs.Below.{below, below-same, below-zero, below-suc}
 use Rattle.vp_suit.proofs.Group.{product, product_inside, inverse, inverse_inside}
 use Rattle.vp_suit.proofs.Cards.{turned_below, turn-rising, turn-length, turn_joined, turn_back}
@@ -19,14 +21,6 @@ pub deal_rises : (n : ℕ) (cards : List ℕ) → IsDeal n cards → IsRising ca
 deal_rises n cards deal = rising_from cards deal.set.rising
 
 -- ---- a turned deal is a deal
-
-place_below : (n c : ℕ) (s : List ℕ) → c < n → Below n s → Below n (place c s)
-unfolding place
-place_below n c [] l b = (l, tt)
-place_below n c (d ∷ s) l b = elim (nat_lt c d) as (λ v. Below n (cond v (c ∷ d ∷ s) (d ∷ place c s))) [
-  | true ↦ (l, b)
-  | false ↦ (b.0, place_below n c s l b.1)
-]
 
 turn_below : (n t : ℕ) (cards : List ℕ) → 52 ≤ n → t < 24 → Below n cards → Below n (turn t cards)
 unfolding turn joined
@@ -40,10 +34,6 @@ turned_deal n t cards big l deal = record {
 }
 
 -- ---- deals by their indexes
-
-pub index_is : (cards : List ℕ) → set_index cards ≡ index_from 0 cards
-unfolding set_index
-index_is cards = refl
 
 -- the deal with index i
 unfoldable pub deal : ℕ → ℕ → List ℕ
@@ -88,16 +78,16 @@ deals_turn n big = record {
 
 -- ---- sums over lists by places
 
-places_to : (f : List ℕ → ℕ) (xs : List (List ℕ)) (k : ℕ) → k ≤ length xs → sum_by f (take k xs) ≡ below (λ i. f (get_or xs i [])) k
-places_to f xs zero l = sym (below-zero (λ i. f (get_or xs i [])))
-places_to f xs (suc k) l =
-    let a : sum_by f (take k xs) ≡ below (λ i. f (get_or xs i [])) k = places_to f xs k (omega arith) in
-    let b : sum_by f (take (k + 1) xs) ≡ sum_by f (take k xs) + f (get_or xs k []) = sum_by_more f xs k [] (omega arith) in
-    let c : below (λ i. f (get_or xs i [])) (suc k) ≡ below (λ i. f (get_or xs i [])) k + f (get_or xs k []) = below-suc (λ i. f (get_or xs i [])) k in
-    ap (λ (j : ℕ). sum_by f (take j xs)) (sym (add-one k)) ∙ (b ∙ ap (λ m. m + f (get_or xs k [])) a ∙ sym c)
+places_to : {A : Type 0} (f : A → ℕ) (d : A) (xs : List A) (k : ℕ) → k ≤ length xs → sum_by f (take k xs) ≡ below (λ i. f (get_or xs i d)) k
+places_to f d xs zero l = sym (below-zero (λ i. f (get_or xs i d)))
+places_to f d xs (suc k) l =
+    let a : sum_by f (take k xs) ≡ below (λ i. f (get_or xs i d)) k = places_to f d xs k (omega arith) in
+    let b : sum_by f (take (k + 1) xs) ≡ sum_by f (take k xs) + f (get_or xs k d) = sum_by_more f xs k d (omega arith) in
+    let c : below (λ i. f (get_or xs i d)) (suc k) ≡ below (λ i. f (get_or xs i d)) k + f (get_or xs k d) = below-suc (λ i. f (get_or xs i d)) k in
+    ap (λ (j : ℕ). sum_by f (take j xs)) (sym (add-one k)) ∙ (b ∙ ap (λ m. m + f (get_or xs k d)) a ∙ sym c)
 
-sum_by-places : (f : List ℕ → ℕ) (xs : List (List ℕ)) → sum_by f xs ≡ below (λ i. f (get_or xs i [])) (length xs)
-sum_by-places f xs = ap (λ (ys : List (List ℕ)). sum_by f ys) (sym (take_all (length xs) xs (omega arith))) ∙ places_to f xs (length xs) (omega arith)
+sum_by-places : {A : Type 0} (f : A → ℕ) (d : A) (xs : List A) → sum_by f xs ≡ below (λ i. f (get_or xs i d)) (length xs)
+sum_by-places f d xs = ap (λ ys. sum_by f ys) (sym (take_all (length xs) xs (omega arith))) ∙ places_to f d xs (length xs) (omega arith)
 
 sum_by-filter : (f : List ℕ → ℕ) (p : List ℕ → Bool) (xs : List (List ℕ)) → sum_by f (filter p xs) ≡ sum_by (λ x. cond (p x) (f x) 0) xs
 sum_by-filter f p [] = refl
@@ -112,13 +102,13 @@ sum_by-filter f p (x ∷ xs) =
 -- the sum over all deals
 pub sum_of_deals : (n : ℕ) (f : List ℕ → ℕ) → sum_by f (combos 5 (deck n)) ≡ below (λ i. f (deal n i)) (choose n 5)
 unfolding deal
-sum_of_deals n f = sum_of_sets f 5 n ∙ sum_by-places f (colex 5 n) ∙ ap (λ k. below (λ i. f (get_or (colex 5 n) i [])) k) (colex_count 5 n)
+sum_of_deals n f = sum_of_sets f 5 n ∙ sum_by-places f [] (colex 5 n) ∙ ap (λ k. below (λ i. f (get_or (colex 5 n) i [])) k) (colex_count 5 n)
 
 -- the sum over the representatives
 pub sum_of_representatives : (n : ℕ) (f : List ℕ → ℕ) → sum_by f (representatives n) ≡ below (λ i. cond (is_representative (deal n i)) (f (deal n i)) 0) (choose n 5)
 unfolding deal representatives
 sum_of_representatives n f =
-    sum_by-filter f (λ x. is_representative x) (colex 5 n) ∙ sum_by-places (λ x. cond (is_representative x) (f x) 0) (colex 5 n)
+    sum_by-filter f (λ x. is_representative x) (colex 5 n) ∙ sum_by-places (λ x. cond (is_representative x) (f x) 0) [] (colex 5 n)
     ∙ ap (λ k. below (λ i. cond (is_representative (get_or (colex 5 n) i [])) (f (get_or (colex 5 n) i [])) 0) k) (colex_count 5 n)
 
 -- the sum over all deals is the sum over the classes, each taken as often as it weighs
@@ -135,3 +125,15 @@ sum_by_classes n big f kept =
     below-same (λ i. cond (is_representative (deal n i)) (weight (deal n i) * x i) 0) (λ r. cond (is_least r (images (act n) 23 r)) (length (different (images (act n) 23 r)) * x r) 0) (choose n 5) (λ i small.
     ap (λ r. cond (is_least r (image_indexes (deal n i))) (weight (deal n i) * x i) 0) (deal_is n i small).1) in
     sum_of_representatives n (λ cards. weight cards * f cards) ∙ same ∙ sym main ∙ sym (sum_of_deals n f)
+
+-- the sum over all deals of their numbers in a list is the sum of the list
+sum_of_listed : (n : ℕ) (w : List ℕ) → length w ≡ choose n 5 → sum_by (listed w) (combos 5 (deck n)) ≡ sum_by (λ x. x) w
+sum_of_listed n w all =
+    let same : below (λ i. listed w (deal n i)) (choose n 5) ≡ below (λ i. get_or w i 0) (choose n 5) =
+    below-same (λ i. listed w (deal n i)) (λ i. get_or w i 0) (choose n 5) (λ i small. ap (λ j. get_or w j 0) (deal_is n i small).1) in
+    sum_of_deals n (listed w) ∙ same ∙ ap (below (λ i. get_or w i 0)) (sym all) ∙ sym (sum_by-places (λ x. x) 0 w)
+
+-- a list of one number for each deal, with equal numbers at all deals of a class, sums as its classes do
+pub sum_of_list : (n : ℕ) (w : List ℕ) → 52 ≤ n → length w ≡ choose n 5 → IsKept n (listed w)
+    → sum_by (λ cards. weight cards * listed w cards) (representatives n) ≡ sum_by (λ x. x) w
+sum_of_list n w big all kept = sum_by_classes n big (listed w) kept ∙ sum_of_listed n w all

@@ -4,16 +4,16 @@ use Rattle.std.specs.Bool.{Decides}
 use Rattle.std.proofs.lemmas.Bool.{cases_lt, cases_eq, and_parts, and_from, leb-true, le-leb}
 use Rattle.std.proofs.lemmas.Bool.Decides.{same_from_decides}
 use Rattle.std.proofs.Math.Nat.{mul-le-mul_right}
-use Rattle.vp_sets.specs.Sets.{IsRising}
+use Rattle.vp_card.specs.Rising.{IsRising}
 use Rattle.vp_sets.specs.Index.{set_index}
-use Rattle.vp_sets.proofs.Colex.{set_rises, set_below}
+use Rattle.vp_sets.proofs.Colex.{set_rises, set_below, index_is}
 use Rattle.vp_suit.specs.Turns.{turned_suit, turn}
 use Rattle.vp_suit.specs.Heaps.{heap, falls}
 use Rattle.vp_suit.specs.Classes.{IsDeal, image_indexes, is_representative}
 use Rattle.vp_suit.proofs.Group.{Powers, powers, Turns, unturned, last_exchanged, middle_exchanged, first_exchanged}
 use Rattle.vp_suit.proofs.Cards.{turn_first}
 use Rattle.vp_suit.proofs.Members.{least_at, least_from}
-use Rattle.vp_suit.proofs.Deals.{deal_rises, turned_deal, index_is}
+use Rattle.vp_suit.proofs.Deals.{deal_rises, turned_deal}
 use Rattle.vp_suit.proofs.Score.{score, score_turned, jokers, ordered}
 
 layered : (e f g k a b c d : ℕ) → Powers a b c d → (e + f + g + k) + 2 * (e + f + g) + 4 * (e + f) + 8 * e ≤ a * (e + f + g + k) + b * (e + f + g) + c * (e + f) + d * e

@@ -148,22 +148,25 @@ pub record Turns (t p q r s : ℕ) : Type 0 where
   pub hearts : turned_suit t 2 ≡ r
   pub spades : turned_suit t 3 ≡ s
 
+turns_so : (t : ℕ) → Turns t (at t 0) (at t 1) (at t 2) (at t 3)
+turns_so t = record { clubs = is_at t 0; diamonds = is_at t 1; hearts = is_at t 2; spades = is_at t 3 }
+
 pub unturned : Turns 0 0 1 2 3
 unfolding at
-unturned = record { clubs = is_at 0 0; diamonds = is_at 0 1; hearts = is_at 0 2; spades = is_at 0 3 }
+unturned = turns_so 0
 
 -- the turns that exchange two neighbours
 pub last_exchanged : Turns 1 0 1 3 2
 unfolding at
-last_exchanged = record { clubs = is_at 1 0; diamonds = is_at 1 1; hearts = is_at 1 2; spades = is_at 1 3 }
+last_exchanged = turns_so 1
 
 pub middle_exchanged : Turns 2 0 2 1 3
 unfolding at
-middle_exchanged = record { clubs = is_at 2 0; diamonds = is_at 2 1; hearts = is_at 2 2; spades = is_at 2 3 }
+middle_exchanged = turns_so 2
 
 pub first_exchanged : Turns 6 1 0 2 3
 unfolding at
-first_exchanged = record { clubs = is_at 6 0; diamonds = is_at 6 1; hearts = is_at 6 2; spades = is_at 6 3 }
+first_exchanged = turns_so 6
 
 -- for each turn, the suits that become clubs, diamonds, hearts and spades
 abbrev pub origins : List (List ℕ)

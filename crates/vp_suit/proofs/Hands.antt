@@ -1,11 +1,10 @@
 -- Hands as rising lists, and the hand that stands for the turned cards.
-use Rattle.std.proofs.Common.{◌≡◌, ℕ, ◌<◌, ◌≤◌, eqb, List, [], ◌∷◌, length, map, get_or, ap, ◌∙◌, arith}
+use Rattle.std.proofs.Common.{◌≡◌, ℕ, ◌<◌, ◌≤◌, eqb, List, map, ap, ◌∙◌, arith}
 use Rattle.std.specs.List.{IsDistinct}
 use Rattle.std.specs.List.Sorted.{IsPermutation}
 use Rattle.vp_card.specs.Cards.{IsHand}
-use Rattle.vp_sets.specs.Sets.{times, IsRising}
-use Rattle.vp_sets.proofs.Rising.{times-rising, joined_only, rising_from, times-IsPermutation, distinct_from}
-use Rattle.vp_sets.proofs.FiveCards.{five_in_row}
+use Rattle.vp_card.specs.Rising.{times, IsRising}
+use Rattle.vp_card.proofs.Rising.{times-rising, joined_only, rising_from, times-IsPermutation, distinct_from}
 use Rattle.vp_suit.specs.Turns.{turned, turn}
 use Rattle.vp_suit.proofs.Group.{inverse}
 use Rattle.vp_suit.proofs.Cards.{times-mapped}
@@ -13,9 +12,6 @@ use Rattle.vp_suit.proofs.Cards.{times-mapped}
 -- five different cards in rising order
 pub hand_rises : (cards : List ℕ) → IsHand cards → IsRising cards
 hand_rises cards hand = rising_from cards hand.rising
-
-pub five_mapped : (f : ℕ → ℕ) (cards : List ℕ) → length cards ≡ 5 → map f cards ≡ f (get_or cards 0 0) ∷ f (get_or cards 1 0) ∷ f (get_or cards 2 0) ∷ f (get_or cards 3 0) ∷ f (get_or cards 4 0) ∷ []
-five_mapped f cards h = ap (λ (x : List ℕ). map f x) (five_in_row cards h)
 
 -- turned cards of a rising list are different
 pub times_turned : (t : ℕ) (cards : List ℕ) → t < 24 → IsRising cards → (x : ℕ) → times x (map (λ card. turned t card) cards) ≤ 1

@@ -5,9 +5,10 @@ use Rattle.std.proofs.lemmas.Bool.{cases_eq, eq-eqb, ne_eqb, lt-ltb}
 use Rattle.std.proofs.lemmas.Bool.Decides.{nat_tests}
 use Rattle.std.proofs.Math.Nat.{pow-suc, pow-zero}
 use Rattle.vp_card.specs.Cards.{held}
-use Rattle.vp_sets.specs.Sets.{has, times, IsBelow, IsRising}
+use Rattle.vp_card.specs.Rising.{times, IsBelow, IsRising}
+use Rattle.vp_sets.specs.Sets.{has}
 use Rattle.vp_sets.specs.Draws.{discarded}
-use Rattle.vp_sets.proofs.Rising.{rising_same, times-rising}
+use Rattle.vp_card.proofs.Rising.{rising_same, times-rising}
 use Rattle.vp_suit.specs.Turns.{turned, turn, mask_of, carried}
 use Rattle.vp_suit.proofs.Group.{inverse}
 use Rattle.vp_suit.proofs.Cards.{times-mapped, times-turn, turn-rising, turn-length}

@@ -2,7 +2,7 @@
 use Rattle.std.proofs.Common.{ℕ, true, false, cond, nat_lt, List, [], ◌∷◌, map}
 use Rattle.std.specs.List.Sorted.{IsPermutation}
 use Rattle.std.proofs.lemmas.List.Sorted.{IsPermutation-refl, IsPermutation-trans, IsPermutation-cons, IsPermutation-middle}
-use Rattle.vp_sets.specs.Sets.{place, joined}
+use Rattle.vp_card.specs.Cards.{place, joined}
 use Rattle.vp_suit.specs.Turns.{turned, turn}
 
 -- two neighbours change places

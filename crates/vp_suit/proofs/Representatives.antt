@@ -4,7 +4,8 @@ use Rattle.std.proofs.lemmas.Bool.{cases_lt, cases_eq, and_parts, and_from, eqb-
 use Rattle.std.proofs.lemmas.Bool.Decides.{same_from_decides}
 use Rattle.std.proofs.lemmas.List.{length-map, get_or-map, get_or_push, get_or_append_left}
 use Rattle.std.proofs.lemmas.List.Sums.{position_or_len_is}
-use Rattle.vp_sets.specs.Sets.{deck, choose, has, IsRising}
+use Rattle.vp_card.specs.Rising.{IsRising}
+use Rattle.vp_sets.specs.Sets.{deck, choose, has}
 use Rattle.vp_sets.specs.Index.{set_index}
 use Rattle.vp_sets.proofs.Decks.{length-deck, in_deck-deck}
 use Rattle.vp_suit.specs.Turns.{turn}

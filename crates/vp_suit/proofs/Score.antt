@@ -3,7 +3,9 @@ use Rattle.std.proofs.Common.{◌≡◌, ◌⊎◌, inl, inr, ℕ, zero, suc, �
 use Rattle.std.proofs.lemmas.Bool.{cases_eq, cases_lt, eq-eqb, ne_eqb, lt-ltb, le-ltb}
 use Rattle.std.proofs.lemmas.Nat.{pow-add}
 use Rattle.std.proofs.Math.Nat.{pow-suc, pow-zero, pow-le-pow_right, mul_comm, mul-add}
-use Rattle.vp_sets.specs.Sets.{choose, place, joined, IsRising}
+use Rattle.vp_card.specs.Cards.{place, joined}
+use Rattle.vp_card.specs.Rising.{IsRising}
+use Rattle.vp_sets.specs.Sets.{choose}
 use Rattle.vp_sets.specs.Index.{index_from}
 use Rattle.vp_sets.proofs.Colex.{Below, Topped, top_cases, index_lt, index-push}
 use Rattle.vp_suit.specs.Turns.{turned_suit, turned, turn}

@@ -1,16 +1,18 @@
 -- The sum over the draws of a hold, where deal, mask and draws are turned together.
 use Rattle.std.proofs.Common.{◌≡◌, inl, inr, ℕ, zero, suc, ◌+◌, ◌<◌, ◌≤◌, true, cond, not, ◌==◌, ltb, List, [], ◌∷◌, ◌++◌, length, map, refl, ap, sym, subst, ◌∙◌, arith, append-nil, sum_by}
 use Rattle.std.proofs.lemmas.Bool.{cases_lt, cases_eq, eq-eqb, ne_eqb, lt-ltb}
-use Rattle.vp_card.specs.Cards.{held, in_deck}
-use Rattle.vp_sets.specs.Sets.{deck, combos, has, without, place, joined, times, IsRising}
+use Rattle.vp_card.specs.Cards.{held, in_deck, place, joined}
+use Rattle.vp_card.specs.Rising.{times, IsRising}
+use Rattle.vp_sets.specs.Sets.{deck, combos, has, without}
 use Rattle.vp_sets.specs.Draws.{discarded, draws, sum_over_draws}
-use Rattle.vp_sets.proofs.Rising.{times-append, times-same, times-place, times-joined, times-rising, rising-joined, rising-place, rising_same}
+use Rattle.vp_card.proofs.Rising.{times-append, times-same, times-place, times-joined, times-rising, rising-joined, rising-place, rising_same}
 use Rattle.vp_sets.proofs.Sublists.{sub_times, sub_rising, sum_combos_agree}
-use Rattle.vp_sets.proofs.Decks.{in_deck-cons, in_deck-put, in_deck-deck, times-deck, times-outside, times-without}
-use Rattle.vp_sets.proofs.Holds.{Dealt, final_dealt, held_once, rising-without}
+use Rattle.vp_card.proofs.InDeck.{in_deck-put}
+use Rattle.vp_sets.proofs.Decks.{in_deck-deck, times-deck, times-outside, times-without}
+use Rattle.vp_sets.proofs.Holds.{Dealt, final_dealt, held_once, rising-without, dealt_is_set}
 use Rattle.vp_sets.proofs.Over.{less, over, over-zero, over-none, over-cons, over_is}
 use Rattle.vp_sets.proofs.Spread.{split_at}
-use Rattle.vp_sets.proofs.Colex.{Below, set_below, set_from}
+use Rattle.vp_sets.proofs.Colex.{Below, set_below}
 use Rattle.vp_suit.specs.Turns.{turned, turn, carried}
 use Rattle.vp_suit.specs.Classes.{IsDeal, IsKept}
 use Rattle.vp_suit.proofs.Group.{inverse, inverse_inside}
@@ -111,15 +113,11 @@ in_deck_from : (n : ℕ) (s : List ℕ) → Below n s → in_deck n s ≡ true
 in_deck_from n [] b = refl
 in_deck_from n (c ∷ s) b = in_deck-put n c s b.0 (in_deck_from n s b.1)
 
-below_of : (n : ℕ) (s : List ℕ) → in_deck n s ≡ true → Below n s
-below_of n [] h = tt
-below_of n (c ∷ s) h = let two : (c < n) × (in_deck n s ≡ true) = in_deck-cons n c s h in (two.0, below_of n s two.1)
-
 pub dealt_is : (n : ℕ) (cards : List ℕ) → IsDeal n cards → Dealt n cards
 dealt_is n cards d = record { rising = deal_rises n cards d; of_deck = in_deck_from n cards (set_below n cards d.set); five = d.five }
 
 pub deal_is_dealt : (n : ℕ) (cards : List ℕ) → Dealt n cards → IsDeal n cards
-deal_is_dealt n cards d = record { five = d.five; set = set_from n cards d.rising (below_of n cards d.of_deck) }
+deal_is_dealt n cards d = record { five = d.five; set = dealt_is_set n cards d }
 
 -- the sum over the draws is kept where the mask is carried along
 pub draws_turned : (f : List ℕ → ℕ) (n t mask : ℕ) (cards : List ℕ) → 52 ≤ n → t < 24 → IsDeal n cards → IsKept n f

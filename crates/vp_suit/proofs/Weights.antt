@@ -2,11 +2,16 @@
 use Rattle.std.proofs.Common.{◌≡◌, ℕ, zero, suc, ◌<◌, ◌≤◌, Bool, true, false, cond, ◌&&◌, ◌==◌, List, [], ◌∷◌, length, map, get_or, refl, ap, ◌∙◌, arith}
 use Rattle.std.specs.List.{list_any}
 use Rattle.std.proofs.lemmas.Bool.{eq-eqb}
+use Rattle.std.proofs.lemmas.List.{length-map}
 use Rattle.std.proofs.lemmas.Bool.Decides.{nat_tests}
 use Rattle.vp_card.specs.Cards.{in_deck}
 use Rattle.vp_sets.specs.Sets.{deck, has}
-use Rattle.vp_sets.proofs.Decks.{in_deck-cons}
+use Rattle.vp_card.proofs.InDeck.{in_deck-cons}
+use Rattle.vp_sets.specs.Index.{set_index}
+use Rattle.vp_sets.proofs.Decks.{length-deck}
 use Rattle.vp_suit.specs.Images.{different}
+use Rattle.vp_suit.specs.Turns.{turn}
+use Rattle.vp_suit.specs.Classes.{image_indexes, weight}
 use Rattle.vp_suit.proofs.Group.{origin}
 
 -- ---- how many different values a function has, told by which of its values are equal
@@ -33,6 +38,30 @@ different_fresh f same n (k ∷ ks) h inside =
       | true ↦ rest
       | false ↦ ap suc rest
     ])
+
+different_few : (xs : List ℕ) → length (different xs) ≤ length xs
+unfolding different
+different_few [] = omega arith
+different_few (x ∷ xs) = elim (has xs x) as (λ v. length (cond v (different xs) (x ∷ different xs)) ≤ suc (length xs)) [
+  | true ↦ omega (arith, different_few xs)
+  | false ↦ omega (arith, different_few xs)
+]
+
+different_some : (xs : List ℕ) → 0 < length xs → 0 < length (different xs)
+unfolding different has
+different_some [] l = absurd (omega arith)
+different_some (x ∷ []) l = omega arith
+different_some (x ∷ y ∷ xs) l = elim (has (y ∷ xs) x) as (λ v. 0 < length (cond v (different (y ∷ xs)) (x ∷ different (y ∷ xs)))) [
+  | true ↦ different_some (y ∷ xs) (omega arith)
+  | false ↦ omega arith
+]
+
+-- a class has at least one deal, and at most one for each turn
+pub weight_few : (cards : List ℕ) → (1 ≤ weight cards) × (weight cards ≤ 24)
+unfolding weight image_indexes
+weight_few cards =
+    let many : length (map (λ t. set_index (turn t cards)) (deck 24)) ≡ 24 = length-map (deck 24) (λ t. set_index (turn t cards)) ∙ length-deck 24 in
+    (different_some (map (λ t. set_index (turn t cards)) (deck 24)) (omega arith), omega (arith, different_few (map (λ t. set_index (turn t cards)) (deck 24))))
 
 -- ---- which heaps are equal, where neighbours' tests are known
 

@@ -1,5 +1,5 @@
 -- Classes of deals: the images under the turns of the suits, the representative and the weight.
-use Rattle.std.specs.Prelude.{◌≡◌, ℕ, ◌<◌, Bool, List, length, map, filter}
+use Rattle.std.specs.Prelude.{◌≡◌, ℕ, ◌<◌, Bool, List, length, map, filter, slice_index_or}
 use Rattle.std.specs.List.{position_or_len}
 use Rattle.vp_sets.specs.Sets.{deck}
 use Rattle.vp_sets.specs.Index.{IsSet, set_index, colex}
@@ -31,10 +31,14 @@ least_turn cards = position_or_len (λ index. is_least index (image_indexes card
 unfoldable pub representative : List ℕ → List ℕ
 representative cards = turn (least_turn cards) cards
 
--- the weight of a deal's class: the number of different images
+-- the weight of a deal's class: the number of different images, which their indexes tell apart
 unfoldable pub weight : List ℕ → ℕ
 weight cards = length (different (image_indexes cards))
 
 -- the representatives among all deals from a deck of n, by rising index
 unfoldable pub representatives : ℕ → List (List ℕ)
 representatives n = filter (λ cards. is_representative cards) (colex 5 n)
+
+-- the number of a deal in a list of one number for each deal, by index
+abbrev pub listed : List ℕ → List ℕ → ℕ
+listed w cards = slice_index_or w (set_index cards) 0

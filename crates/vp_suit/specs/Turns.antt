@@ -1,8 +1,8 @@
 -- The 24 turns of the suits, and what they make of a deal and of a mask.
 use Rattle.std.specs.Prelude.{ℕ, zero, suc, ◌+◌, ◌*◌, if◌then◌else◌, nat_lt, List, [], ◌∷◌, map, slice_index, slice_index_or}
 use Rattle.std.specs.List.{flat_map}
-use Rattle.vp_card.specs.Cards.{rank, suit, held}
-use Rattle.vp_sets.specs.Sets.{deck, has, without, joined}
+use Rattle.vp_card.specs.Cards.{rank, suit, held, joined}
+use Rattle.vp_sets.specs.Sets.{deck, has, without}
 
 -- the lists of k different members of s, in lexicographic order
 unfoldable pub arrangements : ℕ → List ℕ → List (List ℕ)

@@ -1,6 +1,6 @@
 //! Laws of turns and classes, for proofs.
 
-ghost use Rattle.std.specs.Prelude.{◌≡◌, ℕ, ◌*◌, ◌<◌, ◌≤◌, ◌==◌, List, map, sum_by, true};
+ghost use Rattle.std.specs.Prelude.{◌≡◌, ℕ, ◌*◌, ◌<◌, ◌≤◌, ◌==◌, List, length, map, sum, sum_by, true};
 ghost use Rattle.std.specs.List.{All, Contains, count_by};
 ghost use Rattle.std.specs.List.Sorted.{IsStrictlyIncreasing};
 ghost use Rattle.vp_card.specs.Cards.{held};
@@ -8,13 +8,20 @@ ghost use Rattle.vp_sets.specs.Draws.{discarded, sum_over_draws};
 ghost use Rattle.vp_sets.specs.Sets.{choose, combos, deck};
 ghost use Rattle.vp_sets.specs.Index.{set_index};
 ghost use Rattle.vp_suit.specs.Turns.{carried, turn};
-ghost use Rattle.vp_suit.specs.Classes.{IsDeal, IsKept, is_representative, representative, representatives, weight};
+ghost use Rattle.vp_suit.specs.Classes.{IsDeal, IsKept, is_representative, listed, representative, representatives, weight};
 
 /// A law, for proofs: for each function of a deal that turns keep, the sum over the classes of weight times the
 /// function is the sum over all deals.
 #[tactic(auto, using(crate::proofs::Deals::sum_by_classes))]
 pub fn sum_by_classes()
     ensures { (n : ℕ) (f : List ℕ → ℕ) → 52 ≤ n → IsKept n f → sum_by (λ cards. weight cards * f cards) (representatives n) ≡ sum_by f (combos 5 (deck n)) }
+{}
+
+/// A law, for proofs: a list of one number for each deal, by index, that has equal numbers at all deals of a class sums to
+/// what its numbers at the representatives sum to, each taken as often as its class weighs.
+#[tactic(auto, using(crate::proofs::Deals::sum_of_list))]
+pub fn list_sums_by_classes()
+    ensures { (n : ℕ) (w : List ℕ) → 52 ≤ n → length w ≡ choose n 5 → IsKept n (listed w) → sum_by (λ cards. weight cards * listed w cards) (representatives n) ≡ sum w }
 {}
 
 /// A law, for proofs: the representatives of a deck's deals.

@@ -1,6 +1,7 @@
 //! The representative of a hand's class, and the weight of the class.
 
 ghost use Rattle.std.specs.Prelude.{◌≡◌, ◌≢◌, ℕ, ◌<◌, ◌≤◌};
+ghost use Rattle.vp_card.specs.Cards.{IsHand};
 ghost use Rattle.vp_sets.specs.Index.{set_index};
 ghost use Rattle.vp_suit.specs.Turns.{turn};
 ghost use Rattle.vp_suit.specs.Classes.{is_representative, least_turn, representative, weight};
@@ -18,8 +19,8 @@ pub fn least_image(hand: &Hand) -> (Hand, SuitTurn)
     ensures least { (t : ℕ) → t < 24 → set_index result.0 ≤ set_index (turn t hand.now) }
     // No lesser turn gives it.
     ensures first { (t : ℕ) → t < result.1 → turn t hand.now ≢ result.0 }
+    ensures hand { IsHand hand.now }
 {
-    let _ = hand.numbers();
     let mut t = SuitTurn::first();
     let mut image = turn(t, hand);
     while !is_representative(&image) {
@@ -39,7 +40,6 @@ fn is_representative(hand: &Hand) -> bool
 pub fn weight(hand: &Hand) -> u8
     ensures { result ≡ weight hand.now }
 {
-    let _ = hand.numbers();
     let (image, _) = least_image(hand);
     weight_of(&image.numbers())
 }

@@ -12,7 +12,7 @@ mod walk;
 
 pub use class::Class;
 pub use classes::{Classes, class_count};
-pub use laws::{carry_laws, representative_laws, sum_by_classes, turn_laws};
+pub use laws::{carry_laws, list_sums_by_classes, representative_laws, sum_by_classes, turn_laws};
 pub use least::{least_image, weight};
 pub use suit_turn::SuitTurn;
 pub use turned::{carry, turn};

@@ -12,7 +12,9 @@ use vp_card::{Card, Hand};
 
 /// The hand of the turned cards.
 pub fn turn(t: SuitTurn, hand: &Hand) -> Hand
-    ensures { result ≡ turn t hand.now }
+    ensures value { result ≡ turn t hand.now }
+    ensures turn { t < 24 }
+    ensures hand { IsHand hand.now }
 {
     Hand::of(cards(t, hand)).unwrap()
 }
@@ -43,8 +45,6 @@ pub fn carry(t: SuitTurn, hand: &Hand, mask: u8) -> u8
     ensures held { held result (turn t hand.now) ≡ turn t (held mask hand.now) }
     ensures discarded { discarded result (turn t hand.now) ≡ turn t (discarded mask hand.now) }
 {
-    let _ = t.number();
-    let _ = hand.numbers();
     let kept = hand.held(mask);
     mask_of(t, &kept, &turn(t, hand).numbers())
 }

@@ -12,14 +12,14 @@ is t m made hand new kept e f g l =
     e' ∙ carried_is t m hand l
 
 pub returns-clause-value : goal.returns-clause-value
-returns-clause-value c = is _ c.args.mask _ c.args.hand.now _ _ c.mask_of.ensures.value (c.numbers-2.ensures.value ∙ c.turn.ensures) (c.deref.ensures.0 ∙ c.held-kept.ensures) c.number.ensures.below
+returns-clause-value c = is _ c.args.mask _ c.args.hand.now _ _ c.mask_of.ensures.value (c.numbers.ensures.value ∙ c.turn.ensures.value) (c.deref.ensures.0 ∙ c.held-kept.ensures.cards) c.turn.ensures.turn
 
 pub returns-clause-held : goal.returns-clause-held
 returns-clause-held c =
-    let is : c.mask_of.result ≡ carried c.args.t c.args.hand.now c.args.mask = is _ c.args.mask _ c.args.hand.now _ _ c.mask_of.ensures.value (c.numbers-2.ensures.value ∙ c.turn.ensures) (c.deref.ensures.0 ∙ c.held-kept.ensures) c.number.ensures.below in
-    ap (λ m. held m (turn c.args.t c.args.hand.now)) is ∙ held_carried c.args.t c.args.mask c.args.hand.now c.number.ensures.below (hand_rises c.args.hand.now c.numbers.ensures.hand)
+    let is : c.mask_of.result ≡ carried c.args.t c.args.hand.now c.args.mask = is _ c.args.mask _ c.args.hand.now _ _ c.mask_of.ensures.value (c.numbers.ensures.value ∙ c.turn.ensures.value) (c.deref.ensures.0 ∙ c.held-kept.ensures.cards) c.turn.ensures.turn in
+    ap (λ m. held m (turn c.args.t c.args.hand.now)) is ∙ held_carried c.args.t c.args.mask c.args.hand.now c.turn.ensures.turn (hand_rises c.args.hand.now c.held-kept.ensures.hand)
 
 pub returns-clause-discarded : goal.returns-clause-discarded
 returns-clause-discarded c =
-    let is : c.mask_of.result ≡ carried c.args.t c.args.hand.now c.args.mask = is _ c.args.mask _ c.args.hand.now _ _ c.mask_of.ensures.value (c.numbers-2.ensures.value ∙ c.turn.ensures) (c.deref.ensures.0 ∙ c.held-kept.ensures) c.number.ensures.below in
-    ap (λ m. discarded m (turn c.args.t c.args.hand.now)) is ∙ discarded_carried c.args.t c.args.mask c.args.hand.now c.number.ensures.below (hand_rises c.args.hand.now c.numbers.ensures.hand)
+    let is : c.mask_of.result ≡ carried c.args.t c.args.hand.now c.args.mask = is _ c.args.mask _ c.args.hand.now _ _ c.mask_of.ensures.value (c.numbers.ensures.value ∙ c.turn.ensures.value) (c.deref.ensures.0 ∙ c.held-kept.ensures.cards) c.turn.ensures.turn in
+    ap (λ m. discarded m (turn c.args.t c.args.hand.now)) is ∙ discarded_carried c.args.t c.args.mask c.args.hand.now c.turn.ensures.turn (hand_rises c.args.hand.now c.held-kept.ensures.hand)
