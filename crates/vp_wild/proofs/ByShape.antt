@@ -105,37 +105,17 @@ most_bit n = most (ltb 0 n)
     most true = omega arith
     most false = omega arith
 
+-- of a number and three zeros at most one isn't 0
+one_beside : (a b c d : ℕ) → b + c + d ≡ 0 → bit_of (ltb 0 a) + bit_of (ltb 0 b) + bit_of (ltb 0 c) + bit_of (ltb 0 d) ≤ 1
+one_beside a b c d h = omega (arith, most_bit a, no_bit b (omega arith), no_bit c (omega arith), no_bit d (omega arith))
+
 -- where a number is the sum of four, the others are 0
 sum_is_one : (a b c d s : ℕ) → s < 4 → get_or (a ∷ b ∷ c ∷ d ∷ []) s 0 ≡ a + b + c + d
     → bit_of (ltb 0 a) + bit_of (ltb 0 b) + bit_of (ltb 0 c) + bit_of (ltb 0 d) ≤ 1
-sum_is_one a b c d zero h e =
-    let x : a ≡ a + b + c + d = e in
-    let m : bit_of (ltb 0 a) ≤ 1 = most_bit a in
-    let y : bit_of (ltb 0 b) ≡ 0 = no_bit b (omega arith) in
-    let z : bit_of (ltb 0 c) ≡ 0 = no_bit c (omega arith) in
-    let w : bit_of (ltb 0 d) ≡ 0 = no_bit d (omega arith) in
-    omega arith
-sum_is_one a b c d (suc zero) h e =
-    let x : b ≡ a + b + c + d = e in
-    let m : bit_of (ltb 0 b) ≤ 1 = most_bit b in
-    let y : bit_of (ltb 0 a) ≡ 0 = no_bit a (omega arith) in
-    let z : bit_of (ltb 0 c) ≡ 0 = no_bit c (omega arith) in
-    let w : bit_of (ltb 0 d) ≡ 0 = no_bit d (omega arith) in
-    omega arith
-sum_is_one a b c d (suc (suc zero)) h e =
-    let x : c ≡ a + b + c + d = e in
-    let m : bit_of (ltb 0 c) ≤ 1 = most_bit c in
-    let y : bit_of (ltb 0 a) ≡ 0 = no_bit a (omega arith) in
-    let z : bit_of (ltb 0 b) ≡ 0 = no_bit b (omega arith) in
-    let w : bit_of (ltb 0 d) ≡ 0 = no_bit d (omega arith) in
-    omega arith
-sum_is_one a b c d (suc (suc (suc zero))) h e =
-    let x : d ≡ a + b + c + d = e in
-    let m : bit_of (ltb 0 d) ≤ 1 = most_bit d in
-    let y : bit_of (ltb 0 a) ≡ 0 = no_bit a (omega arith) in
-    let z : bit_of (ltb 0 b) ≡ 0 = no_bit b (omega arith) in
-    let w : bit_of (ltb 0 c) ≡ 0 = no_bit c (omega arith) in
-    omega arith
+sum_is_one a b c d zero h e = let x : a ≡ a + b + c + d = e in omega (arith, one_beside a b c d (omega arith))
+sum_is_one a b c d (suc zero) h e = let x : b ≡ a + b + c + d = e in omega (arith, one_beside b a c d (omega arith))
+sum_is_one a b c d (suc (suc zero)) h e = let x : c ≡ a + b + c + d = e in omega (arith, one_beside c a b d (omega arith))
+sum_is_one a b c d (suc (suc (suc zero))) h e = let x : d ≡ a + b + c + d = e in omega (arith, one_beside d a b c (omega arith))
 sum_is_one a b c d (suc (suc (suc (suc s)))) h e = absurd (omega arith)
 
 -- the mask of the cards' suits tells whether they have one suit

@@ -1,21 +1,18 @@
 -- The index of the raised ranks of a hand tells how many of its cards are wild and how many others have each rank.
-use Rattle.std.proofs.Common.{◌≡◌, ℕ, suc, ◌+◌, ◌/◌, ◌<◌, ◌≤◌, Bool, true, false, cond, not, ◌&&◌, ◌||◌, eqb, leb, List, [], ◌∷◌, length, get_or, drop, refl, ap, sym, subst, ◌∙◌, arith, Option, None, Some}
+use Rattle.std.proofs.Common.{◌≡◌, ℕ, suc, ◌+◌, ◌/◌, ◌<◌, ◌≤◌, Bool, true, false, cond, not, ◌&&◌, ◌||◌, eqb, leb, List, [], ◌∷◌, length, get_or, drop, refl, ap, sym, subst, ◌∙◌, arith, lit≤, Option, None, Some}
 use Rattle.std.proofs.lemmas.Bool.Decides.{nat_tests}
 use Rattle.vp_card.specs.Cards.{rank}
+use Rattle.vp_card.specs.Rising.{IsBelow, IsRising}
 use Rattle.vp_rank.specs.Counts.{ranked}
 use Rattle.vp_rank.specs.Wilds.{is_wild, naturals, wilds}
 use Rattle.vp_rank.proofs.CountLemmas.{tally, count_by-cons}
-use Rattle.vp_sets.specs.Sets.{IsBelow, IsRising, choose}
+use Rattle.vp_sets.specs.Sets.{choose}
 use Rattle.vp_sets.specs.Index.{IsSet, colex, index_from, set_index}
-use Rattle.vp_sets.proofs.Binomials.{choose-zero, choose_small, choose_times}
-use Rattle.vp_sets.proofs.Colex.{Below, at_index, below_at, index_lt, set_rises, set_below}
-use Rattle.vp_suit.proofs.Deals.{index_is}
+use Rattle.vp_sets.proofs.Binomials.{choose_small}
+use Rattle.vp_sets.proofs.Pascal.{ways_are}
+use Rattle.vp_sets.proofs.Colex.{Below, at_index, below_at, index_lt, set_rises, set_below, index_is}
 use Rattle.vp_wild.specs.Places.{raised}
 use Rattle.vp_sets.proofs.FiveCards.{five_in_row}
-
-pub raised-none : (j : ℕ) → raised j [] ≡ []
-unfolding raised
-raised-none j = refl
 
 pub raised-cons : (j c : ℕ) (s : List ℕ) → raised j (c ∷ s) ≡ (rank c + j) ∷ raised (suc j) s
 unfolding raised
@@ -42,12 +39,7 @@ raised_below j [] h l = tt
 raised_below j (c ∷ s) h l = (let m : c < 53 = h.0 in omega arith, raised_below (suc j) s h.1 (omega arith))
 
 choose-18-5 : choose 18 5 ≡ 8568
-choose-18-5 =
-    let a : choose 18 1 ≡ 18 = omega (arith, choose_times 18 0, choose-zero 18) in
-    let b : choose 18 2 ≡ 153 = omega (arith, choose_times 18 1, a) in
-    let c : choose 18 3 ≡ 816 = omega (arith, choose_times 18 2, b) in
-    let d : choose 18 4 ≡ 3060 = omega (arith, choose_times 18 3, c) in
-    omega (arith, choose_times 18 4, d)
+choose-18-5 = sym (ways_are 18 5 (lit≤ tt) (lit≤ tt))
 
 -- the index of the raised ranks of five cards
 pub ranks_below : (s : List ℕ) → IsSet 53 s → length s ≡ 5 → set_index (raised 0 s) < 8568

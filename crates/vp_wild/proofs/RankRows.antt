@@ -124,6 +124,14 @@ two_counts w hand f g r s ne chosen =
       cards = omega arith;
     }
 
+-- how often faces have two ranks whose copies were chosen
+made_counts : (w : Option ℕ) (hand f : List ℕ) (i j r s : ℕ) (made : Copies i j r s) → Chosen w hand f made.cards
+    → (ranked r f ≡ ranked r (naturals w hand) + i) × (ranked s f ≡ ranked s (naturals w hand) + j)
+made_counts w hand f i j r s made chosen = (
+  chosen.counts (λ c. eqb (rank c) r) ∙ ap (λ (x : ℕ). ranked r (naturals w hand) + x) made.first,
+  chosen.counts (λ c. eqb (rank c) s) ∙ ap (λ (x : ℕ). ranked s (naturals w hand) + x) made.second,
+)
+
 -- one rank a times and another b times, of five
 module _ (w : Option ℕ) (hand : List ℕ) (p q : ℕ → Bool) (a b : ℕ) where
   abbrev second_faces : List ℕ → ℕ → Bool
@@ -190,11 +198,9 @@ module _ (w : Option ℕ) (hand : List ℕ) (p q : ℕ → Bool) (a b : ℕ) whe
         size = omega arith;
         natural = made.natural;
         passes = λ f chosen.
-            let counts : TwoCounts w hand f made.cards r s = two_counts w hand f made.cards r s apart chosen in
-            let first : ranked r f ≡ ranked r (naturals w hand) + ranked r made.cards = counts.first in
-            let second : ranked s f ≡ ranked s (naturals w hand) + ranked s made.cards = counts.second in
-            let made_a : ranked r made.cards ≡ a - ranked r (naturals w hand) = made.first in
-            let made_b : ranked s made.cards ≡ b - ranked s (naturals w hand) = made.second in
+            let counts = made_counts w hand f (a - ranked r (naturals w hand)) (b - ranked s (naturals w hand)) r s made chosen in
+            let first : ranked r f ≡ ranked r (naturals w hand) + (a - ranked r (naturals w hand)) = counts.0 in
+            let second : ranked s f ≡ ranked s (naturals w hand) + (b - ranked s (naturals w hand)) = counts.1 in
             some_below-from 13 (first_faces f) r one.below
             (and_from (p r && eqb (ranked r f) a) (some_below 13 (second_faces f))
             (and_from (p r) (eqb (ranked r f) a) front.0 (eq-eqb (ranked r f) a (omega arith)))
@@ -257,11 +263,9 @@ module _ (w : Option ℕ) (hand : List ℕ) where
         size = omega arith;
         natural = made.natural;
         passes = λ f chosen.
-            let counts : TwoCounts w hand f made.cards r s = two_counts w hand f made.cards r s apart chosen in
-            let first : ranked r f ≡ ranked r (naturals w hand) + ranked r made.cards = counts.first in
-            let second : ranked s f ≡ ranked s (naturals w hand) + ranked s made.cards = counts.second in
-            let made_a : ranked r made.cards ≡ 2 - ranked r (naturals w hand) = made.first in
-            let made_b : ranked s made.cards ≡ wilds w hand - (2 - ranked r (naturals w hand)) = made.second in
+            let counts = made_counts w hand f (2 - ranked r (naturals w hand)) (wilds w hand - (2 - ranked r (naturals w hand))) r s made chosen in
+            let first : ranked r f ≡ ranked r (naturals w hand) + (2 - ranked r (naturals w hand)) = counts.0 in
+            let second : ranked s f ≡ ranked s (naturals w hand) + (wilds w hand - (2 - ranked r (naturals w hand))) = counts.1 in
             some_below-from 13 (pair_faces f) r one.below
             (and_from (leb 2 (ranked r f)) (some_below 13 (other_faces f r)) (le-leb 2 (ranked r f) (omega arith))
             (some_below-from 13 (other_faces f r) s two.below

@@ -18,7 +18,7 @@ first_line wild lines hand = position (λ l. hits wild l hand) lines
 abbrev pub line : PayTable → List ℕ → Option ℕ
 line table hand = first_line table.wild table.lines.items hand
 
--- the payment: the number in column `coin`, counted from 1, of the first line that the hand hits, and 0 for none
+-- the payment for a bet of 1 to 5 coins: the number in that column, counted from 1, of the first line that the hand hits, and 0 for none
 unfoldable pub pay : PayTable → ℕ → List ℕ → ℕ
 pay table coin hand =
     option_map_or (λ l. slice_index l.pays (coin - 1))

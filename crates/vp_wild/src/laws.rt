@@ -1,9 +1,10 @@
 //! Laws of matches and payments, each the contract of a function that does nothing.
 
-ghost use Rattle.std.specs.Prelude.{◌≡◌, ℕ, ◌<◌, Bool, List, Option, length, map, true};
+ghost use Rattle.std.specs.Prelude.{◌≡◌, ℕ, ◌-◌, ◌<◌, Bool, List, Option, None, Some, length, map, slice_index, slice_index_or, true};
 ghost use Rattle.std.specs.Bool.{Decides};
 ghost use Rattle.std.specs.List.Sorted.{IsPermutation};
 ghost use Rattle.vp_pay.specs.declared.pattern.Pattern.{Pattern};
+ghost use Rattle.vp_pay.specs.declared.table.PayLine.{PayLine};
 ghost use Rattle.vp_pay.specs.declared.table.PayTable.{PayTable};
 ghost use Rattle.vp_rank.specs.Counts.{one_suit, ranked};
 ghost use Rattle.vp_rank.specs.Wilds.{naturals, wilds};
@@ -50,6 +51,14 @@ pub fn order_plays_no_part()
 pub fn suits_can_be_exchanged()
     ensures { (wild : Option ℕ) (f to from : ℕ → ℕ) → ExchangesSuits wild f to from → (hand : List ℕ) →
         Alike wild hand (map f hand) }
+{}
+
+/// A hand is paid the number of its line in the column of the bet, and 0 where it hits no line.
+pub fn hands_are_paid_by_their_line()
+    // The place is one of the table's, so that the other line is never taken.
+    ensures paid { (table : PayTable) (coin : ℕ) (hand : List ℕ) (place : ℕ) (other : PayLine) → line table hand ≡ Some place →
+        pay table coin hand ≡ slice_index (slice_index_or table.lines.items place other).pays (coin - 1) }
+    ensures unpaid { (table : PayTable) (coin : ℕ) (hand : List ℕ) → line table hand ≡ None → pay table coin hand ≡ 0 }
 {}
 
 /// A deal and the deals that the 24 turns of the suits make of it have the same pay line and the same payment.

@@ -12,8 +12,8 @@ mod tests;
 
 pub use kept::KeptPayments;
 pub use laws::{
-    alike_hands_are_paid_alike, counts_tell_matches, faces_are_tried, order_plays_no_part,
-    suits_can_be_exchanged, turned_hands_are_paid_alike,
+    alike_hands_are_paid_alike, counts_tell_matches, faces_are_tried, hands_are_paid_by_their_line,
+    order_plays_no_part, suits_can_be_exchanged, turned_hands_are_paid_alike,
 };
 pub use ranker::{line_of, pay};
 pub use steps::Steps;

@@ -8,6 +8,7 @@ mod tables;
 use crate::{Steps, line_of, pay};
 use plain::first_line;
 use std::marker::Brand;
+use std::process::Abort;
 use std::sync::ledger::{Blank, Ledger};
 use std::test::Fail;
 use tables::{deuces, every_pattern, hand_of, kickers, poker, table_of};
@@ -104,6 +105,14 @@ fn paid<L: Ledger>(table: &PayTable, numbers: [u8; 5], blank: Blank) -> Option<u
     Some(pay(table, 2, &hand_of(numbers)?, &mut steps))
 }
 
+/// Fails at the first hand whose payment is another.
+fn all_paid(rt: &impl Abort, table: &PayTable, hands: &[([u8; 5], u32)]) -> Result<(), Fail> {
+    for (hand, payment) in hands {
+        assert_eq!(rt; paid::<Brand>(table, *hand, Blank::new(1)), Some(*payment));
+    }
+    Ok(())
+}
+
 #[test]
 fn pays_the_first_line(rt: HostRuntime) -> Result<(), Fail> {
     let table = deuces().ok_or("table")?;
@@ -127,13 +136,7 @@ fn pays_the_first_line(rt: HostRuntime) -> Result<(), Fail> {
         // 2c 2d 3c 8d Kh: no line
         ([0, 1, 4, 25, 46], 0),
     ];
-    for (hand, payment) in hands {
-        assert_eq!(rt;
-            paid::<Brand>(&table, hand, Blank::new(1)).ok_or("hand")?,
-            payment
-        );
-    }
-    Ok(())
+    all_paid(&rt, &table, &hands)
 }
 
 #[test]
@@ -146,11 +149,5 @@ fn pays_for_kickers(rt: HostRuntime) -> Result<(), Fail> {
         ([44, 45, 46, 47, 48], 0),
         ([40, 41, 42, 43, 44], 22),
     ];
-    for (hand, payment) in hands {
-        assert_eq!(rt;
-            paid::<Brand>(&table, hand, Blank::new(1)).ok_or("hand")?,
-            payment
-        );
-    }
-    Ok(())
+    all_paid(&rt, &table, &hands)
 }
