@@ -1,10 +1,10 @@
 -- Best values, and their sum over all deals, fit 64 bits.
-use Rattle.std.proofs.Common.{◌≡◌, ◌⊎◌, inl, inr, ℕ, zero, suc, ◌*◌, ◌^◌, ◌<◌, ◌≤◌, List, lit<, arith}
+use Rattle.std.proofs.Common.{◌≡◌, ◌⊎◌, inl, inr, ℕ, zero, suc, ◌*◌, ◌^◌, ◌<◌, ◌≤◌, List, sym, lit<, lit≤, arith}
 use Rattle.std.proofs.Math.Nat.{mul-suc}
 use Rattle.std.specs.List.{sum_by}
 use Rattle.vp_sets.specs.Sets.{deck, combos, choose}
 use Rattle.vp_sets.specs.Draws.{common}
-use Rattle.vp_sets.proofs.Binomials.{choose-zero, choose_times}
+use Rattle.vp_sets.proofs.Pascal.{ways_are}
 use Rattle.vp_sets.proofs.Denominators.{common-52, common-53, common_small}
 use Rattle.vp_sets.proofs.Holds.{Dealt}
 use Rattle.vp_suit.proofs.Below.{below, below-zero, below-suc}
@@ -29,20 +29,10 @@ below_le x m (suc n) h = omega (arith, below-suc x n, below_le x m n (λ i l. h 
 
 -- how many deals there are
 deals-52 : choose 52 5 ≡ 2598960
-deals-52 =
-    let one : choose 52 1 ≡ 52 = omega (arith, choose_times 52 0, choose-zero 52) in
-    let two : choose 52 2 ≡ 1326 = omega (arith, choose_times 52 1) in
-    let three : choose 52 3 ≡ 22100 = omega (arith, choose_times 52 2) in
-    let four : choose 52 4 ≡ 270725 = omega (arith, choose_times 52 3) in
-    omega (arith, choose_times 52 4)
+deals-52 = sym (ways_are 52 5 (lit≤ tt) (lit≤ tt))
 
 deals-53 : choose 53 5 ≡ 2869685
-deals-53 =
-    let one : choose 53 1 ≡ 53 = omega (arith, choose_times 53 0, choose-zero 53) in
-    let two : choose 53 2 ≡ 1378 = omega (arith, choose_times 53 1) in
-    let three : choose 53 3 ≡ 23426 = omega (arith, choose_times 53 2) in
-    let four : choose 53 4 ≡ 292825 = omega (arith, choose_times 53 3) in
-    omega (arith, choose_times 53 4)
+deals-53 = sym (ways_are 53 5 (lit≤ tt) (lit≤ tt))
 
 -- the greatest payment for every deal of a deck fits
 room : (n : ℕ) → (n ≡ 52) ⊎ (n ≡ 53) → 500000 * common n * choose n 5 < 2 ^ 64

@@ -5,8 +5,10 @@ use Rattle.std.proofs.lemmas.Bool.{cases_lt}
 use Rattle.std.proofs.lemmas.Bool.Decides.{nat_tests}
 use Rattle.std.proofs.lemmas.List.Sums.{sum_by_push}
 use Rattle.vp_card.specs.Cards.{in_deck}
-use Rattle.vp_sets.specs.Sets.{deck, times}
-use Rattle.vp_sets.proofs.Decks.{deck-suc, in_deck-cons, in_deck-deck, times-deck}
+use Rattle.vp_card.specs.Rising.{times}
+use Rattle.vp_sets.specs.Sets.{deck}
+use Rattle.vp_card.proofs.InDeck.{in_deck-cons}
+use Rattle.vp_sets.proofs.Decks.{deck-suc, in_deck-deck, times-deck}
 use Rattle.vp_pay.specs.declared.table.PayTable.{PayTable}
 use Rattle.vp_draws.specs.Draws.{greatest, masks, value, best, least_best, ties}
 use Rattle.vp_draws.specs.declared.best.Best.{Best}
@@ -40,8 +42,13 @@ best_more f n v b new h e more same less =
     elim (cases_lt b.value v) [
       | inl l ↦ rw (more l) (greater l)
       | inr l ↦ elim (cases_lt v b.value) [
-        | inl m ↦ rw (less m) (lesser m)
-        | inr m ↦ let q : b.value ≡ v = omega arith in rw (same q) (equal q)
+        | inl m ↦
+            let t : (f n == b.value) ≡ false = grind (arith, nat_tests) in
+            rw (less m) (stays b.ties (omega arith) (rw t (omega arith)))
+        | inr m ↦
+            let q : b.value ≡ v = omega arith in
+            let t : (f n == b.value) ≡ true = grind (arith, nat_tests) in
+            rw (same q) (stays (b.ties + 1) (omega arith) (rw t (omega arith)))
       ]
     ]
   where
@@ -59,31 +66,20 @@ best_more f n v b new h e more same less =
           few = omega arith;
         }
 
-    equal : b.value ≡ v → IsBestBelow f (n + 1) (record b { ties = b.ties + 1 })
-    equal q =
-        let t : (f n == b.value) ≡ true = grind (arith, nat_tests) in
-        let c : count_by (λ mask. f mask == b.value) (deck (n + 1)) ≡ count_by (λ mask. f mask == b.value) (deck n) + (if true then 1 else 0) = rw t at (count_push f b.value n) in
-        record {
-          hold = omega (arith, h.hold);
-          value = h.value;
-          greatest = below_more (λ mask. f mask ≤ b.value) n h.greatest (omega arith);
-          least = h.least;
-          ties = omega (arith, c, h.ties);
-          few = omega (arith, h.few);
-        }
+    at_most_one : (t : Bool) → (if t then 1 else 0) ≤ 1
+    at_most_one true = lit≤ tt
+    at_most_one false = lit≤ tt
 
-    lesser : v < b.value → IsBestBelow f (n + 1) b
-    lesser l =
-        let t : (f n == b.value) ≡ false = grind (arith, nat_tests) in
-        let c : count_by (λ mask. f mask == b.value) (deck (n + 1)) ≡ count_by (λ mask. f mask == b.value) (deck n) + (if false then 1 else 0) = rw t at (count_push f b.value n) in
-        record {
-          hold = omega (arith, h.hold);
-          value = h.value;
-          greatest = below_more (λ mask. f mask ≤ b.value) n h.greatest (omega arith);
-          least = h.least;
-          ties = omega (arith, c, h.ties);
-          few = omega (arith, h.few);
-        }
+    -- a mask that is worth no more leaves the best mask, with one more tie where it is worth the same
+    stays : (count : ℕ) → v ≤ b.value → count ≡ b.ties + (if f n == b.value then 1 else 0) → IsBestBelow f (n + 1) (record b { ties = count })
+    stays count l is = record {
+      hold = omega (arith, h.hold);
+      value = h.value;
+      greatest = below_more (λ mask. f mask ≤ b.value) n h.greatest (omega arith);
+      least = h.least;
+      ties = omega (arith, count_push f b.value n, h.ties, is);
+      few = omega (arith, h.few, is, at_most_one (f n == b.value));
+    }
 
 -- the mask 0 alone
 pub best_first : (f : ℕ → ℕ) (v : ℕ) → v ≡ f 0 → IsBestBelow f 1 (record { mask = 0; value = v; ties = 1 })
@@ -172,20 +168,20 @@ sum_first f = zero-add (f 0)
 pub sum_more : (f : ℕ → ℕ) (n : ℕ) → sum_by f (deck (n + 1)) ≡ sum_by f (deck n) + f n
 sum_more f n = rw (add-one, deck-suc) (sum_by_push f (deck n) n)
 
--- ---- the values of a table
-
-pub is_best : (table : PayTable) (coin : ℕ) (hand : List ℕ) (b : Best) → IsBestBelow (value table coin hand) 32 b → b.value ≡ best table coin hand
-unfolding best masks
-is_best table coin hand b h = greatest_is (value table coin hand) 32 b h
-
-pub is_least_best : (table : PayTable) (coin : ℕ) (hand : List ℕ) (b : Best) → IsBestBelow (value table coin hand) 32 b → b.mask ≡ least_best table coin hand
-unfolding least_best best masks
-is_least_best table coin hand b h = least_is (value table coin hand) 32 b h
-
-pub has_ties : (table : PayTable) (coin : ℕ) (hand : List ℕ) (b : Best) → IsBestBelow (value table coin hand) 32 b → b.ties ≡ ties table coin hand
-unfolding ties best masks
-has_ties table coin hand b h = ties_are (value table coin hand) 32 b h
+-- ---- the values of a table, where all 32 masks were compared
 
 pub masks_are : deck 32 ≡ masks
-unfolding masks
+unfolding masks deck
 masks_are = refl
+
+pub is_best : (table : PayTable) (coin : ℕ) (hand : List ℕ) (n : ℕ) (b : Best) → n ≡ 32 → IsBestBelow (value table coin hand) n b → b.value ≡ best table coin hand
+unfolding best
+is_best table coin hand n b all h = rw (← masks_are, ← all) (greatest_is (value table coin hand) n b h)
+
+pub is_least_best : (table : PayTable) (coin : ℕ) (hand : List ℕ) (n : ℕ) (b : Best) → n ≡ 32 → IsBestBelow (value table coin hand) n b → b.mask ≡ least_best table coin hand
+unfolding least_best best
+is_least_best table coin hand n b all h = rw (← masks_are, ← all) (least_is (value table coin hand) n b h)
+
+pub has_ties : (table : PayTable) (coin : ℕ) (hand : List ℕ) (n : ℕ) (b : Best) → n ≡ 32 → IsBestBelow (value table coin hand) n b → b.ties ≡ ties table coin hand
+unfolding ties best
+has_ties table coin hand n b all h = rw (← masks_are, ← all) (ties_are (value table coin hand) n b h)

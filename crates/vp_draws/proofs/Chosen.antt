@@ -43,8 +43,8 @@ pub record IsBestHold (f : ℕ → ℕ) (mask top : ℕ) : Type 0 where
 pub best_hold : (table : PayTable) (coin : ℕ) (hand : List ℕ) → IsBestHold (value table coin hand) (least_best table coin hand) (best table coin hand)
 best_hold table coin hand =
     let b : FoundBest (value table coin hand) 32 = all_found (value table coin hand) 31 in
-    let mask : b.found.mask ≡ least_best table coin hand = is_least_best table coin hand b.found b.is in
-    let top : b.found.value ≡ best table coin hand = is_best table coin hand b.found b.is in
+    let mask : b.found.mask ≡ least_best table coin hand = is_least_best table coin hand 32 b.found refl b.is in
+    let top : b.found.value ≡ best table coin hand = is_best table coin hand 32 b.found refl b.is in
     rw (← mask, ← top) (record { small = b.is.hold; value = sym b.is.value; greatest = b.is.greatest; least = b.is.least })
 
 pub least_best_small : (table : PayTable) (coin : ℕ) (hand : List ℕ) → least_best table coin hand < 32

@@ -3,7 +3,9 @@ use Rattle.std.specs.Prelude.{ℕ, ◌-◌, ◌<◌, ◌≤◌, List, [], ◌++�
 use Rattle.std.specs.List.{All}
 use Rattle.vp_pay.specs.declared.table.PayTable.{PayTable}
 use Rattle.vp_wild.specs.Payment.{pay}
-use Rattle.vp_sets.specs.Sets.{combos, choose, joined, times}
+use Rattle.vp_card.specs.Cards.{joined}
+use Rattle.vp_card.specs.Rising.{times}
+use Rattle.vp_sets.specs.Sets.{combos, choose}
 use Rattle.vp_sets.specs.Index.{IsSet}
 
 -- what hands are made of: at most five chosen cards, rising, and others to choose from, all of them different

@@ -1,5 +1,6 @@
 -- What the holds of a hand are worth.
 use Rattle.std.specs.Prelude.{ℕ, ◌*◌, max, ◌==◌, List, [], ◌∷◌, length, find, unwrap_or, sum_by, count_by}
+use Rattle.std.specs.List.{range_with_len}
 use Rattle.vp_pay.specs.declared.table.PayTable.{PayTable}
 use Rattle.vp_wild.specs.Payment.{pay}
 use Rattle.vp_sets.specs.Sets.{deck, combos}
@@ -15,7 +16,7 @@ value table coin hand mask = total table coin hand mask * scale table.deck (leng
 
 -- the masks of the 32 holds
 unfoldable pub masks : List ℕ
-masks = deck 32
+masks = range_with_len 0 32
 
 -- the greatest of the numbers that f gives for a list
 unfoldable pub greatest : (ℕ → ℕ) → List ℕ → ℕ

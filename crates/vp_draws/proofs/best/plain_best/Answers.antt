@@ -1,10 +1,10 @@
-use Rattle.std.proofs.Common.{◌≡◌, ◌+◌, length, subst, ap, ◌∙◌, arith}
+use Rattle.std.proofs.Common.{◌≡◌, ◌+◌, length, ap, ◌∙◌, arith}
 use Rattle.std.specs.List.{sum_by}
 use Rattle.vp_sets.specs.Sets.{deck}
 use Rattle.vp_sets.specs.Draws.{draws}
 use Rattle.vp_wild.specs.Kept.{Bet}
 use Rattle.vp_draws.specs.Draws.{value, masks}
-use Rattle.vp_draws.proofs.Choice.{IsBestBelow, best_first, best_more, sum_first, sum_more, is_best, is_least_best, has_ties, masks_are}
+use Rattle.vp_draws.proofs.Choice.{best_first, best_more, sum_first, sum_more, is_best, is_least_best, has_ties, masks_are}
 use Rattle.vp_draws.proofs.best.plain_best.Goals as goal
 
 pub loop-mask-init : goal.loop-mask-init
@@ -28,19 +28,13 @@ loop-mask-preserved g c =
     }
 
 pub returns-clause-ties : goal.returns-clause-ties
-returns-clause-ties g c =
-    let end : c.loop-mask.mask ≡ 32 = omega arith in
-    has_ties _ _ _ _ (subst (λ n. IsBestBelow (value c.args.table.now c.args.coin c.args.hand.now) n c.loop-mask.best) end c.loop-mask.invariant.best_below)
+returns-clause-ties g c = has_ties _ _ _ _ _ (omega arith) c.loop-mask.invariant.best_below
 
 pub returns-clause-best : goal.returns-clause-best
-returns-clause-best g c =
-    let end : c.loop-mask.mask ≡ 32 = omega arith in
-    is_best _ _ _ _ (subst (λ n. IsBestBelow (value c.args.table.now c.args.coin c.args.hand.now) n c.loop-mask.best) end c.loop-mask.invariant.best_below)
+returns-clause-best g c = is_best _ _ _ _ _ (omega arith) c.loop-mask.invariant.best_below
 
 pub returns-clause-least_best : goal.returns-clause-least_best
-returns-clause-least_best g c =
-    let end : c.loop-mask.mask ≡ 32 = omega arith in
-    is_least_best _ _ _ _ (subst (λ n. IsBestBelow (value c.args.table.now c.args.coin c.args.hand.now) n c.loop-mask.best) end c.loop-mask.invariant.best_below)
+returns-clause-least_best g c = is_least_best _ _ _ _ _ (omega arith) c.loop-mask.invariant.best_below
 
 pub returns-clause-steps : goal.returns-clause-steps
 returns-clause-steps g c =
