@@ -7,7 +7,8 @@ use Rattle.vp_sets.specs.Index.{IsSet}
 use Rattle.vp_sets.proofs.Over.{over, over_is, over_agree, over-plus}
 use Rattle.vp_sets.proofs.Spread.{only_with, only_without, only_with-yes, only_with-no, only_without-yes, only_without-no}
 use Rattle.vp_sets.proofs.Bridge.{with_all, kept, kept-none, kept-held, kept-discarded, spread_is}
-use Rattle.vp_count.specs.Sums.{number, containing, keeps, matching, spread}
+use Rattle.vp_count.specs.Sums.{number, containing, spread}
+use Rattle.vp_count.specs.Parts.{keeps, matching}
 
 pub with_all-none : (f : List ℕ → ℕ) → with_all [] f ≡ f
 unfolding with_all

@@ -6,14 +6,16 @@ use Rattle.std.proofs.Math.Nat.{mul-div_cancel_left, mul-le-mul}
 use Rattle.std.proofs.lemmas.List.{get_or-drop, drop-set-lt, length-drop}
 use Rattle.std.proofs.lemmas.List.Folds.{list_any-append}
 use Rattle.std.proofs.lemmas.Bool.{cases_eq, or_cases, false≢true}
-use Rattle.vp_sets.specs.Sets.{deck, choose, has, without, place}
+use Rattle.vp_card.specs.Cards.{place}
+use Rattle.vp_sets.specs.Sets.{deck, choose, has, without}
 use Rattle.vp_sets.specs.Index.{IsSet, HasIndex, set_index, index_from, colex}
 use Rattle.vp_sets.proofs.Spread.{has-none, has-later}
-use Rattle.vp_sets.proofs.Colex.{set_rises, set_below, index_lt, at_index}
+use Rattle.vp_sets.proofs.Colex.{set_rises, set_below, index_lt, at_index, index_is}
 use Rattle.vp_count.specs.Sums.{number, containing}
 use Rattle.vp_count.specs.Table.{HasSums, above_sum, first_word, five_numbers}
 use Rattle.vp_count.proofs.Levels.{level_sum, sum_agree, containing_le, containing_five, choose_five, without_has}
-use Rattle.vp_count.proofs.Scan.{word, length_place, set_place, above_is, index_is, word_is}
+use Rattle.vp_card.proofs.Rising.{length-place}
+use Rattle.vp_count.proofs.Scan.{word, set_place, above_is, word_is}
 use Rattle.vp_count.proofs.Words.{first_word-suc, first_word_next, first_word_mono}
 
 has_append : (a b : List ℕ) (c : ℕ) → has (a ++ b) c ≡ (has a c || has b c)
@@ -45,7 +47,7 @@ above_word n j w words s g five h =
     each c k =
         let m : (has (deck n) c ≡ true) × (has s c ≡ false) = without_has (deck n) s c k in
         let t : IsSet n (place c s) = set_place n c s g (deck_below n c m.0) m.1 in
-        let l : length (place c s) ≡ length s + 1 = length_place c s ∙ sym (add-one (length s)) in
+        let l : length (place c s) ≡ length s + 1 = length-place c s ∙ sym (add-one (length s)) in
         let x : get_or words (first_word n (length (place c s)) + set_index (place c s)) 0 ≡ containing n w (place c s) = h.sums (place c s) t (omega arith) (omega arith) in
         word_is s words (first_word n (length s + 1)) c ∙ ap (λ i. get_or words (first_word n i + set_index (place c s)) 0) (sym l) ∙ x
 

@@ -4,18 +4,20 @@ use Rattle.std.specs.List.{sum_by, All}
 use Rattle.std.proofs.Math.Nat.{suc-mul, mul-add}
 use Rattle.std.proofs.lemmas.List.Sums.{sum_by-cons, sum_by-le}
 use Rattle.std.proofs.lemmas.Bool.{cases_lt, cases_eq, cases_Bool, eq-eqb, ne_eqb, or_right, false≢true}
-use Rattle.vp_sets.specs.Sets.{IsBelow, IsRising, deck, combos, choose, has, without, place, joined}
+use Rattle.vp_card.specs.Cards.{place, joined}
+use Rattle.vp_card.specs.Rising.{IsBelow, IsRising}
+use Rattle.vp_sets.specs.Sets.{deck, combos, choose, has, without}
 use Rattle.vp_sets.specs.Subsets.{has_all}
 use Rattle.vp_sets.specs.Index.{IsSet, set_index}
-use Rattle.vp_sets.proofs.Rising.{joined-rising}
+use Rattle.vp_card.proofs.Rising.{joined-rising, place-first, place-later, place-here, place-none, joined-none, joined-cons}
 use Rattle.vp_sets.proofs.Decks.{rising-deck, length-deck}
 use Rattle.vp_sets.proofs.Holds.{rising-without}
 use Rattle.vp_sets.proofs.Sublists.{length-combos}
 use Rattle.vp_sets.proofs.Binomials.{choose-zero, choose_times}
 use Rattle.vp_sets.proofs.Colex.{set_rises, set_below, choose_up}
 use Rattle.vp_sets.proofs.Over.{less, over, over-zero, over-none, over-cons, over_is, over_agree}
-use Rattle.vp_sets.proofs.Spread.{has-none, has-here, has-later, has-cons, above_absent, place-first, place-later, place-here, place-none, less-none, less-here, less-later, less-absent, less-rises, less-keeps, only_with, over_with, above_member}
-use Rattle.vp_sets.proofs.Bridge.{within_deck, Within, with_all, has-place, with_alike, without-none, without-cons, joined-none, joined-cons}
+use Rattle.vp_sets.proofs.Spread.{has-none, has-here, has-later, has-cons, above_absent, less-none, less-here, less-later, less-absent, less-rises, less-keeps, only_with, over_with, above_member}
+use Rattle.vp_sets.proofs.Bridge.{within_deck, Within, with_all, has-place, with_alike, without-none, without-cons}
 use Rattle.std.proofs.lemmas.List.{get_or_past}
 use Rattle.vp_count.specs.Sums.{number, containing}
 use Rattle.vp_count.proofs.Exclusion.{with_all-none, with_all-cons, containing_is}

@@ -6,4 +6,3 @@ pub mod Levels
 pub mod Scan
 pub mod Words
 pub mod Fill
-pub mod Spreads

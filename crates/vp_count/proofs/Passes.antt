@@ -1,47 +1,27 @@
 -- All 32 totals of a hand, one card after another.
-use Rattle.std.proofs.Common.{◌≡◌, ◌⊎◌, inl, inr, ℕ, zero, suc, ◌+◌, ◌*◌, ◌/◌, ◌%◌, ◌^◌, ◌<◌, ◌≤◌, refl, ap, sym, ◌∙◌, arith, eq-eqb, Bool, true, false, cond, ◌==◌, List, [], ◌∷◌, length}
+use Rattle.std.proofs.Common.{◌≡◌, ◌⊎◌, inl, inr, ℕ, zero, suc, ◌+◌, ◌*◌, ◌/◌, ◌%◌, ◌^◌, ◌<◌, ◌≤◌, refl, ap, sym, ◌∙◌, arith, eq-eqb, true, false, cond, ◌==◌, List, [], ◌∷◌, length}
 use Rattle.std.proofs.Math.Nat.{pow-suc, mul_comm, div-div-eq-div-mul}
-use Rattle.std.proofs.lemmas.Bool.{ne_eqb, eqb-true, eqb-false, cases_Bool}
+use Rattle.std.proofs.lemmas.Bool.{ne_eqb, cases_Bool}
 use Rattle.vp_card.specs.Cards.{held}
-use Rattle.vp_sets.specs.Sets.{IsBelow, IsRising, deck, has}
+use Rattle.vp_sets.specs.Sets.{deck, has}
 use Rattle.vp_sets.specs.Index.{IsSet}
+use Rattle.vp_sets.proofs.Sublists.{Sub, nothing, take, skip, sub_rising}
+use Rattle.vp_sets.proofs.Holds.{sub-held}
 use Rattle.vp_sets.proofs.Over.{over, over_agree, over-plus}
 use Rattle.vp_sets.proofs.Spread.{only_with, only_without, only_without-yes, only_without-no}
 use Rattle.vp_sets.proofs.Colex.{Below, set_rises, set_below, set_from}
-use Rattle.vp_sets.proofs.Bridge.{with_all, kept, held-held, held-discarded, held_and_discarded, kept-none, kept-held, kept-discarded, spread_is}
+use Rattle.vp_sets.proofs.Bridge.{with_all, kept, held-held, held-discarded, kept-none, kept-held, kept-discarded, spread_is}
 use Rattle.vp_count.specs.Sums.{number, containing, spread}
 use Rattle.vp_count.proofs.Exclusion.{with_all-cons, containing_is, only_sum, parts}
 
-held_above : (d m : ℕ) (hand : List ℕ) → IsBelow d hand → IsBelow d (held m hand)
-held_above d m [] h = tt
-held_above d m (c ∷ cs) h = by_mask (m % 2 == 1) (held_above d (m / 2) cs h.1)
-  where
-    by_mask : (b : Bool) → IsBelow d (held (m / 2) cs) → IsBelow d (cond b (c ∷ held (m / 2) cs) (held (m / 2) cs))
-    by_mask true k = (h.0, k)
-    by_mask false k = k
-
-held_rises : (m : ℕ) (hand : List ℕ) → IsRising hand → IsRising (held m hand)
-held_rises m [] h = tt
-held_rises m (c ∷ cs) h = by_mask (m % 2 == 1) (held_rises (m / 2) cs h.1)
-  where
-    by_mask : (b : Bool) → IsRising (held (m / 2) cs) → IsRising (cond b (c ∷ held (m / 2) cs) (held (m / 2) cs))
-    by_mask true k = (held_above c (m / 2) cs h.0, k)
-    by_mask false k = k
-
-held_bounded : (n m : ℕ) (hand : List ℕ) → Below n hand → Below n (held m hand)
-held_bounded n m [] h = tt
-held_bounded n m (c ∷ cs) h = by_mask (m % 2 == 1) (held_bounded n (m / 2) cs h.1)
-  where
-    by_mask : (b : Bool) → Below n (held (m / 2) cs) → Below n (cond b (c ∷ held (m / 2) cs) (held (m / 2) cs))
-    by_mask true k = (h.0, k)
-    by_mask false k = k
-
 -- the held cards are a set
 pub held_is_set : (n m : ℕ) (hand : List ℕ) → IsSet n hand → IsSet n (held m hand)
-held_is_set n m hand h = set_from n (held m hand) (held_rises m hand (set_rises n hand h)) (held_bounded n m hand (set_below n hand h))
-
-pub held_few : (m : ℕ) (hand : List ℕ) → length (held m hand) ≤ length hand
-held_few m hand = omega (arith, held_and_discarded m hand)
+held_is_set n m hand h = set_from n (held m hand) (sub_rising (sub-held m hand) (set_rises n hand h)) (sub_bounded n (sub-held m hand) (set_below n hand h))
+  where
+    sub_bounded : (n : ℕ) {y s : List ℕ} → Sub y s → Below n s → Below n y
+    sub_bounded n nothing b = tt
+    sub_bounded n (take p) b = (b.0, sub_bounded n p b.1)
+    sub_bounded n (skip p) b = sub_bounded n p b.1
 
 -- f of the sets that have the held cards, and none of the discards among the first p cards; 0 for the others
 unfoldable pub stage : ℕ → ℕ → List ℕ → (List ℕ → ℕ) → List ℕ → ℕ
@@ -78,12 +58,6 @@ stage_all (suc p) m (c ∷ cs) f l =
       | inl h ↦ stage-held p m c cs f h ∙ ap (λ g. only_with c g) ih ∙ sym (kept-held m c cs f h)
       | inr h ↦ stage-discarded p m c cs f h ∙ ap (λ g. only_without c g) ih ∙ sym (kept-discarded m c cs f h)
     ]
-
-odd_test : (m : ℕ) → (m % 2 == 1) ≡ true → m % 2 ≡ 1
-odd_test m h = eqb-true (m % 2) 1 h
-
-even_test : (m : ℕ) → (m % 2 == 1) ≡ false → m % 2 ≡ 0
-even_test m h = let ne : m % 2 ≡ 1 → ⊥ = eqb-false (m % 2) 1 h in omega arith
 
 test_odd : (m : ℕ) → m % 2 ≡ 1 → (m % 2 == 1) ≡ true
 test_odd m h = eq-eqb (m % 2) 1 h

@@ -5,13 +5,15 @@ use Rattle.std.proofs.Math.Seq.{take-suc, drop-cons}
 use Rattle.std.proofs.lemmas.List.{length-take-le, length-drop, take-append-drop}
 use Rattle.std.proofs.lemmas.List.Sums.{sum_by_push, sum_by-append}
 use Rattle.std.proofs.lemmas.Bool.{cases_lt, cases_eq, cases_Bool, false≢true}
-use Rattle.vp_sets.specs.Sets.{IsBelow, IsRising, deck, choose, has, without, place}
+use Rattle.vp_card.specs.Cards.{place}
+use Rattle.vp_card.specs.Rising.{IsBelow, IsRising}
+use Rattle.vp_sets.specs.Sets.{deck, choose, has, without}
 use Rattle.vp_sets.specs.Index.{IsSet, index_from, set_index}
-use Rattle.vp_sets.proofs.Rising.{rising-place}
+use Rattle.vp_card.proofs.Rising.{rising-place, place-none, place-here, place-later, length-place}
 use Rattle.vp_sets.proofs.Decks.{deck-suc}
 use Rattle.vp_sets.proofs.Binomials.{choose_small}
-use Rattle.vp_sets.proofs.Spread.{has-none, has-here, has-later, has-cons, place-none, place-here, place-later}
-use Rattle.vp_sets.proofs.Colex.{Below, below_more, below_push, set_rises, set_below, set_from, index-none, index-cons, index-append, index_lt}
+use Rattle.vp_sets.proofs.Spread.{has-none, has-here, has-later, has-cons}
+use Rattle.vp_sets.proofs.Colex.{Below, below_more, below_push, set_rises, set_below, set_from, index-none, index-cons, index-append, index_lt, place_below, index_is}
 use Rattle.vp_sets.proofs.Walk.{AtLeast, index_take, below_take}
 use Rattle.vp_count.specs.Table.{above_sum}
 
@@ -38,27 +40,9 @@ place_between c [] [] h k = place-none c
 place_between c [] (d ∷ b) h k = place-here c d b (let l : suc c ≤ d = k.0 in omega arith)
 place_between c (d ∷ a) b h k = place-later c d (a ++ b) (let l : d < c = h.0 in omega arith) ∙ ap (λ z. d ∷ z) (place_between c a b h.1 k)
 
-pub length_place : (c : ℕ) (s : List ℕ) → length (place c s) ≡ suc (length s)
-length_place c [] = ap length (place-none c)
-length_place c (d ∷ s) =
-    let e : (c < d) ⊎ (d ≤ c) = cases_lt c d in
-    elim e [
-      | inl l ↦ ap length (place-here c d s l)
-      | inr l ↦ ap length (place-later c d s l) ∙ ap suc (length_place c s)
-    ]
-
-below_place : (n c : ℕ) (s : List ℕ) → c < n → Below n s → Below n (place c s)
-below_place n c [] l h = subst (λ z. Below n z) (sym (place-none c)) (l, tt)
-below_place n c (d ∷ s) l h =
-    let e : (c < d) ⊎ (d ≤ c) = cases_lt c d in
-    elim e [
-      | inl k ↦ subst (λ z. Below n z) (sym (place-here c d s k)) (l, h)
-      | inr k ↦ subst (λ z. Below n z) (sym (place-later c d s k)) (h.0, below_place n c s l h.1)
-    ]
-
 -- a set with one card more
 pub set_place : (n c : ℕ) (s : List ℕ) → IsSet n s → c < n → has s c ≡ false → IsSet n (place c s)
-set_place n c s h l k = set_from n (place c s) (rising-place c s (Rattle.vp_sets.proofs.Decks.has-none s c k) (set_rises n s h)) (below_place n c s l (set_below n s h))
+set_place n c s h l k = set_from n (place c s) (rising-place c s (Rattle.vp_sets.proofs.Decks.has-none s c k) (set_rises n s h)) (place_below n c s l (set_below n s h))
 
 without-append : (a b s : List ℕ) → without (a ++ b) s ≡ without a s ++ without b s
 unfolding without
@@ -266,17 +250,13 @@ scan_behind s words start c at front back total b l h =
     let m : length (drop at s) ≡ length s - at = length-drop at s in
     omega (arith, h.back_is, h.at_le, index_bound (suc at) (drop at s) (below_drop 54 at s b) (omega (arith, h.at_le)))
 
-pub index_is : (s : List ℕ) → set_index s ≡ index_from 0 s
-unfolding set_index
-index_is s = refl
-
 pub scan_room : (n : ℕ) (s words : List ℕ) (start c at front back total : ℕ) → IsSet n s → c < n → Scan s words start c at front back total → (at < length s → get_or s at 0 ≡ c → ⊥) → front + choose c (at + 1) + back < choose n (length s + 1)
 scan_room n s words start c at front back total g l h ne =
     let r : IsRising s = set_rises n s g in
     let k : has s c ≡ false = scan_absent s words start c at front back total r h ne in
     let t : IsSet n (place c s) = set_place n c s g l k in
     let a : index_from 0 (place c s) < choose n (length (place c s)) = index_lt n (place c s) (set_rises n (place c s) t) (set_below n (place c s) t) in
-    let b : choose n (length (place c s)) ≡ choose n (length s + 1) = ap (λ i. choose n i) (length_place c s ∙ sym (add-one (length s))) in
+    let b : choose n (length (place c s)) ≡ choose n (length s + 1) = ap (λ i. choose n i) (length-place c s ∙ sym (add-one (length s))) in
     omega (arith, is_index, scan_index s words start c at front back total r h ne)
   where
     is_index : set_index (place c s) ≡ index_from 0 (place c s)

@@ -1,14 +1,15 @@
 -- The steps of a total of one hold.
-use Rattle.std.proofs.Common.{◌≡◌, ℕ, suc, ◌+◌, ◌*◌, ◌/◌, ◌%◌, ◌^◌, ◌<◌, ◌≤◌, ap, sym, ◌∙◌, subst, arith, add-one, eq-eqb, nat_lt, Bool, true, false, cond, ◌==◌, List, [], ◌∷◌, ◌++◌, length, take, set, append_assoc}
+use Rattle.std.proofs.Common.{◌≡◌, ℕ, suc, ◌+◌, ◌*◌, ◌/◌, ◌%◌, ◌^◌, ◌<◌, ◌≤◌, ap, sym, ◌∙◌, subst, arith, add-one, eq-eqb, nat_lt, Bool, true, false, cond, ◌==◌, List, [], ◌∷◌, ◌++◌, length, take, set}
 use Rattle.std.proofs.Math.Nat.{pow-suc}
 use Rattle.std.proofs.Math.Seq.{take-suc-set}
 use Rattle.std.proofs.lemmas.Bool.{ne_eqb}
-use Rattle.vp_sets.specs.Sets.{IsBelow, IsRising}
+use Rattle.vp_card.specs.Rising.{IsBelow, IsRising}
 use Rattle.vp_sets.specs.Draws.{discarded}
 use Rattle.vp_sets.specs.Index.{IsSet}
 use Rattle.vp_sets.proofs.Colex.{Below, set_rises, set_below, set_from}
 use Rattle.vp_sets.proofs.Bridge.{discarded-none, discarded-held, discarded-discarded}
-use Rattle.vp_count.specs.Sums.{containing, matching, one_more_read}
+use Rattle.vp_count.specs.Sums.{containing, one_more_read}
+use Rattle.vp_count.specs.Parts.{matching}
 use Rattle.vp_count.proofs.Exclusion.{matching-none, matching-held, matching-discarded}
 
 below_middle : (d : ℕ) (a : List ℕ) (c : ℕ) (b : List ℕ) → IsBelow d (a ++ c ∷ b) → IsBelow d (a ++ b)
@@ -32,11 +33,6 @@ set_without n a c b rest e h =
 -- the held cards with one card more
 pub take_more : (held : List ℕ) (count c : ℕ) → count < length held → take (count + 1) (set held count c) ≡ take count held ++ c ∷ []
 take_more held count c l = ap (λ k. take k (set held count c)) (add-one count) ∙ take-suc-set held count c l
-
-pub set_more : (n : ℕ) (held : List ℕ) (count c : ℕ) (b rest : List ℕ) → count < length held → rest ≡ c ∷ b → IsSet n (take count held ++ rest) → IsSet n (take (count + 1) (set held count c) ++ b)
-set_more n held count c b rest l e h =
-    let p : take (count + 1) (set held count c) ++ b ≡ take count held ++ rest = ap (λ z. z ++ b) (take_more held count c l) ∙ append_assoc (take count held) (c ∷ []) b ∙ ap (λ z. take count held ++ z) (sym e) in
-    subst (λ z. IsSet n z) (sym p) h
 
 mask_one : (m : ℕ) → m % 2 ≡ 1 → (m % 2 == 1) ≡ true
 mask_one m h = eq-eqb (m % 2) 1 h

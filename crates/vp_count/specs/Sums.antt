@@ -1,6 +1,6 @@
 -- Sums of numbers that belong to sets of five.
-use Rattle.std.specs.Prelude.{ℕ, ◌+◌, ◌/◌, ◌%◌, Bool, true, not, ◌&&◌, if◌then◌else◌, ◌==◌, nat_lt, List, [], ◌∷◌, slice_index, sum_by}
-use Rattle.vp_sets.specs.Sets.{deck, combos, has}
+use Rattle.std.specs.Prelude.{ℕ, ◌+◌, if◌then◌else◌, nat_lt, List, slice_index, sum_by}
+use Rattle.vp_sets.specs.Sets.{deck, combos}
 use Rattle.vp_sets.specs.Subsets.{has_all}
 use Rattle.vp_sets.specs.Index.{set_index}
 use Rattle.vp_sets.specs.Draws.{sum_over_draws}
@@ -17,14 +17,11 @@ containing n w s = sum_by (λ h. if has_all h s then number w h else 0) (combos 
 unfoldable pub spread : ℕ → List ℕ → List ℕ → ℕ → ℕ
 spread n w hand mask = sum_over_draws (number w) n hand mask
 
--- whether h has every held card and no discard
-unfoldable pub keeps : ℕ → List ℕ → List ℕ → Bool
-keeps mask [] h = true
-keeps mask (c ∷ cs) h = (if mask % 2 == 1 then has h c else not (has h c)) && keeps (mask / 2) cs h
-
--- the sum of the numbers of all sets of five that contain a, every held card of the others and none of their discards
-unfoldable pub matching : ℕ → List ℕ → List ℕ → List ℕ → ℕ → ℕ
-matching n w a others mask = sum_by (λ h. if has_all h a && keeps mask others h then number w h else 0) (combos 5 (deck n))
+-- what a counting reader of sums tells: the number of cards of the deck, the number of each set of five by its index, and how many sums were read
+pub record Reading : Type 0 where
+  pub size : ℕ
+  pub numbers : List ℕ
+  pub count : ℕ
 
 -- one read more; the count stands at 2^64 - 1
 unfoldable pub one_more_read : ℕ → ℕ

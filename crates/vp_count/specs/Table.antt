@@ -1,7 +1,8 @@
 -- The words of a table of sums.
 use Rattle.std.specs.Prelude.{◌≡◌, ℕ, ◌+◌, ◌≤◌, List, length, slice_index, drop, sum_by}
 use Rattle.std.specs.List.{All}
-use Rattle.vp_sets.specs.Sets.{deck, choose, without, place}
+use Rattle.vp_card.specs.Cards.{place}
+use Rattle.vp_sets.specs.Sets.{deck, choose, without}
 use Rattle.vp_sets.specs.Index.{IsSet, set_index}
 use Rattle.vp_count.specs.Sums.{containing}
 
@@ -31,8 +32,8 @@ pub record Table : Type 0 where
 abbrev pub table_of : ℕ → List ℕ → Table
 table_of n words = record { size = n; numbers = five_numbers n words }
 
--- the words are those of a table: all sums are right, and no number is greater than 250000000000
-pub record IsTable (n : ℕ) (words : List ℕ) : Type 0 where
+-- the words are those of a table of sums for a deck of at most 54 cards: all sums are right, and no number is greater than 250000000000
+pub record IsSumTable (n : ℕ) (words : List ℕ) : Type 0 where
   pub deck : n ≤ 54
   pub sums : HasSums n 0 (five_numbers n words) words
   pub bounded : All (λ x. x ≤ 250000000000) (five_numbers n words)

@@ -1,8 +1,7 @@
 //! A reader of a table of sums that counts its reads.
 
-ghost use Rattle.std.specs.Prelude.{◌≡◌};
-
 use crate::{SumTable, Sums};
+use std::marker::Model;
 
 /// Tells the sums of a table, and counts how many were read. The count stands still at 2^64 - 1.
 #[derive(Drop)]
@@ -11,11 +10,21 @@ pub struct Reads<'a> {
     count: u64,
 }
 
+impl<'a> Model for Reads<'a> {
+    ghost use Rattle.vp_count.specs.Sums.{Reading};
+
+    ghost Value = { Reading };
+
+    ghost view = { λ r. record { size = r.table.now.size; numbers = r.table.now.numbers; count = r.count } };
+}
+
 impl<'a> Reads<'a> {
+    ghost use Rattle.std.specs.Prelude.{◌≡◌};
+
     /// A reader that has read nothing.
     pub fn new(table: &'a SumTable<'a>) -> Reads<'a>
-        ensures size { result.table.now.size ≡ table.now.size }
-        ensures numbers { result.table.now.numbers ≡ table.now.numbers }
+        ensures size { result.size ≡ table.now.size }
+        ensures numbers { result.numbers ≡ table.now.numbers }
         ensures unread { result.count ≡ 0 }
     {
         Reads { table, count: 0 }
@@ -23,9 +32,9 @@ impl<'a> Reads<'a> {
 }
 
 impl<'a> Sums for Reads<'a> {
-    ghost size = { λ r. r.table.now.size };
+    ghost size = { λ r. r.size };
 
-    ghost numbers = { λ r. r.table.now.numbers };
+    ghost numbers = { λ r. r.numbers };
 
     ghost reads = { λ r. r.count };
 

@@ -19,13 +19,13 @@ pub struct SumTable<'a> {
 }
 
 impl<'a> Model for SumTable<'a> {
-    ghost use Rattle.vp_count.specs.Table.{IsTable, Table, table_of};
+    ghost use Rattle.vp_count.specs.Table.{IsSumTable, Table, table_of};
 
     ghost Value = { Table };
 
     ghost view = { λ t. table_of t.n t.words.now };
 
-    ghost invariant = { λ t. IsTable t.n t.words.now };
+    ghost invariant = { λ t. IsSumTable t.n t.words.now };
 }
 
 impl<'a> SumTable<'a> {

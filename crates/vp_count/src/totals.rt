@@ -4,7 +4,8 @@ ghost use Rattle.std.specs.Prelude.{◌≡◌, ◌+◌, ◌/◌, ◌%◌, ◌^�
 ghost use Rattle.vp_card.specs.Cards.{held};
 ghost use Rattle.vp_sets.specs.Draws.{discarded};
 ghost use Rattle.vp_sets.specs.Index.{IsSet};
-ghost use Rattle.vp_count.specs.Sums.{containing, matching, spread};
+ghost use Rattle.vp_count.specs.Sums.{containing, spread};
+ghost use Rattle.vp_count.specs.Parts.{matching};
 
 use crate::Sums;
 use arrayvec::ArrayVec;
