@@ -1,13 +1,10 @@
 -- The values of holds come from the sums of the payments.
-use Rattle.std.proofs.Common.{◌≡◌, ℕ, ◌*◌, ◌^◌, ◌<◌, true, List, [], ◌∷◌, length, ap, subst, ◌∙◌}
+use Rattle.std.proofs.Common.{◌≡◌, ℕ, ◌*◌, ◌^◌, ◌<◌, true, List, length, ap, subst, ◌∙◌}
 use Rattle.vp_card.specs.Cards.{in_deck, IsHand}
 use Rattle.vp_pay.specs.declared.table.PayTable.{PayTable}
 use Rattle.vp_wild.specs.Payment.{pay}
-use Rattle.vp_sets.specs.Index.{IsSet}
 use Rattle.vp_sets.specs.Draws.{discarded, scale}
-use Rattle.vp_sets.proofs.Colex.{Below, set_from}
-use Rattle.vp_sets.proofs.Decks.{in_deck-cons}
-use Rattle.vp_sets.proofs.Holds.{Dealt, dealt_from, draws_agree}
+use Rattle.vp_sets.proofs.Holds.{Dealt, dealt_from, draws_agree, dealt_is_set}
 use Rattle.vp_draws.specs.Draws.{total, value}
 use Rattle.vp_draws.proofs.Values.{value_fits, value_is}
 use Rattle.vp_count.specs.Sums.{number, spread}
@@ -15,13 +12,6 @@ use Rattle.vp_count.specs.Table.{Table}
 use Rattle.vp_wild.specs.Kept.{Bet}
 use Rattle.vp_hold.specs.Games.{payments, IsGame}
 use Rattle.vp_hold.proofs.Written.{payment_number}
-
-below_in_deck : (n : ℕ) (s : List ℕ) → in_deck n s ≡ true → Below n s
-below_in_deck n [] h = tt
-below_in_deck n (c ∷ s) h = let r = in_deck-cons n c s h in (r.0, below_in_deck n s r.1)
-
-dealt_is_set : (n : ℕ) (hand : List ℕ) → Dealt n hand → IsSet n hand
-dealt_is_set n hand d = set_from n hand d.rising (below_in_deck n hand d.of_deck)
 
 -- the sum over all draws of the number at the final hand's index is the sum over all draws of the payment
 pub spread_is_total : (table : PayTable) (coin : ℕ) (hand : List ℕ) (mask : ℕ) → Dealt table.deck hand → spread table.deck (payments table coin) hand mask ≡ total table coin hand mask

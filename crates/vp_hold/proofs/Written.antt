@@ -10,11 +10,10 @@ use Rattle.vp_pay.specs.Table.{IsTable}
 use Rattle.vp_wild.specs.Payment.{pay}
 use Rattle.vp_sets.specs.Sets.{choose}
 use Rattle.vp_sets.specs.Index.{IsSet, HasIndex, set_index, index_from, colex}
-use Rattle.vp_sets.proofs.Colex.{colex_count, at_index, set_rises, set_below, set_from}
+use Rattle.vp_sets.proofs.Colex.{colex_count, at_index, set_rises, set_below, set_from, index_is}
 use Rattle.vp_draws.proofs.Payments.{pay_le}
 use Rattle.vp_count.specs.Sums.{number}
 use Rattle.vp_count.proofs.Fill.{index_below}
-use Rattle.vp_count.proofs.Scan.{index_is}
 use Rattle.vp_hold.specs.Games.{payments}
 
 -- ---- the list of all payments

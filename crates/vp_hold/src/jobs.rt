@@ -5,22 +5,24 @@ ghost use Rattle.vp_pay.specs.Table.{IsTable};
 ghost use Rattle.vp_count.specs.Table.{first_word};
 
 use crate::Game;
-use crate::plain::{DEALS, hand_of, is_of_deck};
+use crate::deals::DEALS;
 use std::marker::Brand;
 use std::sync::ledger::{Blank, Ledger};
 use std::test::*;
+use vp_card::Hand;
 use vp_count::table_words;
-use vp_pay::PayTable;
+use vp_pay::{PayTable, read_deal};
+use vp_text::Lines;
 use vp_wild::Steps;
 
-/// The ties of the best holds of the deals, added up.
-fn ties_of_deals(game: &Game) -> u64 {
+/// The ties of the best holds of the hands, added up.
+fn ties_of_hands(game: &Game, hands: &[Option<Hand>; 12]) -> u64 {
     let mut ties = 0u64;
-    for deal in &DEALS {
-        if let Some(hand) = hand_of(deal) {
-            if is_of_deck(game.table(), &hand) {
-                ties = ties.wrapping_add(u64::from(game.best(&hand).ties));
-            }
+    for dealt in hands {
+        if let Some(hand) = dealt
+            && hand.is_of_deck(game.table().deck)
+        {
+            ties = ties.wrapping_add(u64::from(game.best(hand).ties));
         }
     }
     ties
@@ -35,9 +37,10 @@ fn ties_of_best<L: Ledger>(table: &PayTable, turns: u32, words: &mut [u64], blan
     requires share { 0 < blank.parts }
 {
     let game = Game::fill(table, 1, words, &mut Steps::<L>::new(blank));
+    let hands = DEALS.map(|deal| read_deal(&mut Lines::new(deal), 52).ok());
     let mut ties = 0u64;
     for _ in 0..turns {
-        ties = ties.wrapping_add(ties_of_deals(&game));
+        ties = ties.wrapping_add(ties_of_hands(&game, &hands));
     }
     ties
 }
@@ -58,6 +61,7 @@ fn one_table(rt: HostRuntime) -> Result<(), Fail> {
 #[test]
 fn many_deals(rt: HostRuntime) -> Result<(), Fail> {
     let once = jacks_ties(&rt, 1)?;
+    assert!(rt; once >= 12);
     assert_eq!(rt; jacks_ties(&rt, 20_000)?, once.wrapping_mul(20_000));
     Ok(())
 }

@@ -1,6 +1,8 @@
 //! The value of each hold of a hand, and the best hold, out of one table of sums for a bet.
 #![tactic(auto)]
 
+#[cfg(test)]
+mod deals;
 mod game;
 #[cfg(test)]
 mod jobs;
