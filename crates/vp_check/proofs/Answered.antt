@@ -2,43 +2,40 @@
 use Rattle.std.proofs.Common.{◌≡◌, ◌↔◌, ℕ, Option, Some, None, Result, Ok, Err, List, refl, ap, sym, subst, ◌∙◌}
 use Rattle.std.specs.Option.{IsSomeAnd}
 use Rattle.vp_text.specs.Lines.{feed_of}
-use Rattle.vp_text.specs.Sections.{RefusedLine}
-use Rattle.vp_check.specs.Answers.{Spells, IsChecked, IsBad}
-use Rattle.vp_check.specs.Certificates.{Certificate, IsCertificate}
+use Rattle.vp_check.specs.Answers.{IsChecked, IsBad}
+use Rattle.vp_check.specs.Certificates.{Certificate}
 use Rattle.vp_check.specs.Checking.{certificate_of, checked, bad_at, verdict, answer_of, check_result}
 use Rattle.vp_check.specs.Rules.{Break, first_break}
-use Rattle.vp_check.specs.Spelling.{certificate_text}
+use Rattle.vp_check.specs.Spelling.{RefusesCertificate, SpellsCertificate}
 use Rattle.vp_check.specs.declared.finding.CertRule.{CertRule}
 use Rattle.vp_check.specs.declared.finding.Checked.{Checked}
 use Rattle.vp_check.specs.declared.finding.Finding.{Finding}
 use Rattle.vp_check.specs.declared.finding.Finding.TheVariants.{Bad, Refused}
 use Rattle.vp_check.proofs.Certificates_grammar.{certificate_found, certificate_again, certificate_stops, certificate_refused}
 
-spelled : (bytes : List ℕ) (c : Certificate) → certificate_of bytes ≡ Ok c → Spells bytes c
-spelled bytes c e = let is = certificate_found bytes c e in record { certificate = is.0; whole = is.1 }
-
-answer_is : (bytes : List ℕ) (from count : ℕ) (o : Result Certificate ℕ) → certificate_of bytes ≡ o → check_result bytes from count ≡ answer_of from count (feed_of bytes) o
+-- the answer to a text is that to what it says
+pub answer_is : (bytes : List ℕ) (from count : ℕ) (o : Result Certificate ℕ) → certificate_of bytes ≡ o → check_result bytes from count ≡ answer_of from count (feed_of bytes) o
 unfolding check_result
 answer_is bytes from count o e = ap (λ (x : Result Certificate ℕ). answer_of from count (feed_of bytes) x) e
 
-verdict_is : (bytes : List ℕ) (from count : ℕ) (c : Certificate) (b : Option Break) → Spells bytes c → first_break from count c ≡ b → check_result bytes from count ≡ verdict from count c (feed_of bytes) b
-verdict_is bytes from count c b s e =
-    answer_is bytes from count (Ok c) (certificate_again bytes c s.certificate s.whole) ∙ ap (λ (x : Option Break). verdict from count c (feed_of bytes) x) e
+-- a text that says a certificate is answered by its first broken rule, where there is one
+pub verdict_is : (bytes : List ℕ) (from count : ℕ) (c : Certificate) (b : Option Break) → certificate_of bytes ≡ Ok c → first_break from count c ≡ b → check_result bytes from count ≡ verdict from count c (feed_of bytes) b
+verdict_is bytes from count c b says e = answer_is bytes from count (Ok c) says ∙ ap (λ (x : Option Break). verdict from count c (feed_of bytes) x) e
 
 -- ---- checked
 
-checked_verdict : (bytes : List ℕ) (from count : ℕ) (c : Certificate) (b : Option Break) (r : Checked) → Spells bytes c → first_break from count c ≡ b → verdict from count c (feed_of bytes) b ≡ Ok r → IsChecked bytes from count r
+checked_verdict : (bytes : List ℕ) (from count : ℕ) (c : Certificate) (b : Option Break) (r : Checked) → SpellsCertificate bytes c → first_break from count c ≡ b → verdict from count c (feed_of bytes) b ≡ Ok r → IsChecked bytes from count r
 checked_verdict bytes from count c None r s e h = record { certificate = c; spelled = s; unbroken = e; numbers = let same : checked from count c ≡ r = cc in sym same }
 checked_verdict bytes from count c (Some b) r s e h = absurd (cc)
 
 checked_answer : (bytes : List ℕ) (from count : ℕ) (o : Result Certificate ℕ) (r : Checked) → certificate_of bytes ≡ o → answer_of from count (feed_of bytes) o ≡ Ok r → IsChecked bytes from count r
 checked_answer bytes from count (Err line) r e h = absurd (cc)
-checked_answer bytes from count (Ok c) r e h = checked_verdict bytes from count c (first_break from count c) r (spelled bytes c e) refl h
+checked_answer bytes from count (Ok c) r e h = checked_verdict bytes from count c (first_break from count c) r (certificate_found bytes c e) refl h
 
 pub checked_tells : (bytes : List ℕ) (from count : ℕ) (r : Checked) → check_result bytes from count ≡ Ok r ↔ IsChecked bytes from count r
 checked_tells bytes from count r = (
   λ h. checked_answer bytes from count (certificate_of bytes) r refl (sym (answer_is bytes from count (certificate_of bytes) refl) ∙ h),
-  λ is. verdict_is bytes from count is.certificate None is.spelled is.unbroken ∙ ap (λ (x : Checked). Ok x) (sym is.numbers),
+  λ is. verdict_is bytes from count is.certificate None (certificate_again bytes is.certificate is.spelled) is.unbroken ∙ ap (λ (x : Checked). Ok x) (sym is.numbers),
 )
 
 -- ---- refused
@@ -51,7 +48,7 @@ refused_answer : (bytes : List ℕ) (from count : ℕ) (o : Result Certificate �
 refused_answer bytes from count (Err other) line e h = let same : other ≡ line = cc in e ∙ ap (λ x. Err x) same
 refused_answer bytes from count (Ok c) line e h = refused_verdict from count bytes c (first_break from count c) line (certificate_of bytes ≡ Err line) h
 
-pub refused_tells : (bytes : List ℕ) (from count line : ℕ) → check_result bytes from count ≡ Err (Refused line) ↔ RefusedLine certificate_text IsCertificate (feed_of bytes) line
+pub refused_tells : (bytes : List ℕ) (from count line : ℕ) → check_result bytes from count ≡ Err (Refused line) ↔ RefusesCertificate bytes line
 refused_tells bytes from count line = (
   λ h. certificate_stops bytes line (refused_answer bytes from count (certificate_of bytes) line refl (sym (answer_is bytes from count (certificate_of bytes) refl) ∙ h)),
   λ at. answer_is bytes from count (Err line) (certificate_refused bytes line at),
@@ -59,7 +56,7 @@ refused_tells bytes from count line = (
 
 -- ---- a broken rule
 
-bad_verdict : (bytes : List ℕ) (from count : ℕ) (c : Certificate) (b : Option Break) (line : ℕ) (rule : CertRule) (said due : ℕ) → Spells bytes c → first_break from count c ≡ b
+bad_verdict : (bytes : List ℕ) (from count : ℕ) (c : Certificate) (b : Option Break) (line : ℕ) (rule : CertRule) (said due : ℕ) → SpellsCertificate bytes c → first_break from count c ≡ b
     → verdict from count c (feed_of bytes) b ≡ Err (Bad line rule said due) → IsBad bytes from count (Bad line rule said due)
 bad_verdict bytes from count c None line rule said due s e h = absurd (cc)
 bad_verdict bytes from count c (Some b) line rule said due s e h =
@@ -73,11 +70,11 @@ bad_verdict bytes from count c (Some b) line rule said due s e h =
 bad_answer : (bytes : List ℕ) (from count : ℕ) (o : Result Certificate ℕ) (line : ℕ) (rule : CertRule) (said due : ℕ) → certificate_of bytes ≡ o
     → answer_of from count (feed_of bytes) o ≡ Err (Bad line rule said due) → IsBad bytes from count (Bad line rule said due)
 bad_answer bytes from count (Err other) line rule said due e h = absurd (cc)
-bad_answer bytes from count (Ok c) line rule said due e h = bad_verdict bytes from count c (first_break from count c) line rule said due (spelled bytes c e) refl h
+bad_answer bytes from count (Ok c) line rule said due e h = bad_verdict bytes from count c (first_break from count c) line rule said due (certificate_found bytes c e) refl h
 
-answer_bad : (bytes : List ℕ) (from count : ℕ) (c : Certificate) (o : Option Break) (finding : Finding) → Spells bytes c → first_break from count c ≡ o → IsSomeAnd o (λ b. finding ≡ bad_at c (feed_of bytes) b) → check_result bytes from count ≡ Err finding
+answer_bad : (bytes : List ℕ) (from count : ℕ) (c : Certificate) (o : Option Break) (finding : Finding) → SpellsCertificate bytes c → first_break from count c ≡ o → IsSomeAnd o (λ b. finding ≡ bad_at c (feed_of bytes) b) → check_result bytes from count ≡ Err finding
 answer_bad bytes from count c None finding s e h = absurd h
-answer_bad bytes from count c (Some b) finding s e h = verdict_is bytes from count c (Some b) s e ∙ ap (λ (f : Finding). Err f) (sym h)
+answer_bad bytes from count c (Some b) finding s e h = verdict_is bytes from count c (Some b) (certificate_again bytes c s) e ∙ ap (λ (f : Finding). Err f) (sym h)
 
 pub bad_tells : (bytes : List ℕ) (from count line : ℕ) (rule : CertRule) (said due : ℕ) → check_result bytes from count ≡ Err (Bad line rule said due) ↔ IsBad bytes from count (Bad line rule said due)
 bad_tells bytes from count line rule said due = (

@@ -4,7 +4,8 @@ use Rattle.std.specs.Prelude.{Ok, Err, codes}
 use Rattle.std.specs.Fmt.{decimal}
 use Rattle.std.proofs.lemmas.List.Elements.{All-from_recursion}
 use Rattle.vp_text.specs.Lines.{Word, feed_of}
-use Rattle.vp_text.specs.Sections.{Text, Exact, rows_text, AreRows, both_text, AreBoth, IsWhole, RefusedLine}
+use Rattle.vp_text.specs.Sections.{Text, both_text, AreBoth}
+use Rattle.vp_text.specs.ExactReaders.{Exact, rows_text, AreRows}
 use Rattle.vp_text.proofs.Numbers.{number_within_exact}
 use Rattle.vp_text.proofs.Pieces.{bound, at_end, took, Exact-key_word, Exact-keyed}
 use Rattle.vp_text.proofs.Sections.{Exact-line}
@@ -17,7 +18,7 @@ use Rattle.vp_pay.proofs.Tables.{Exact-table, of_all}
 use Rattle.vp_check.specs.Certificates.{Certificate, IsClassLine, IsCertificate}
 use Rattle.vp_check.specs.Checking.{certificate_of}
 use Rattle.vp_check.specs.Reading.{bet_line, end_of, end_line, CertificateParts, certificate_from, certificate_parts_at, certificate_at}
-use Rattle.vp_check.specs.Spelling.{class_words, return_words, cert_text, certificate_text}
+use Rattle.vp_check.specs.Spelling.{RefusesCertificate, SpellsCertificate, class_words, return_words, cert_text, certificate_text}
 use Rattle.vp_check.specs.declared.class_line.ClassLine.{ClassLine}
 use Rattle.vp_check.proofs.Classes_grammar.{row_words, RowRule, Exact-class_lines, keeps_are, are_keeps}
 
@@ -130,18 +131,20 @@ Exact-certificate = Exact-mapped parts_text AreParts certificate_parts_at certif
 
 -- ---- whole texts
 
-pub certificate_found : (bytes : List ℕ) (c : Certificate) → certificate_of bytes ≡ Ok c → IsCertificate c × IsWhole certificate_text (feed_of bytes) c
+pub certificate_found : (bytes : List ℕ) (c : Certificate) → certificate_of bytes ≡ Ok c → SpellsCertificate bytes c
 unfolding certificate_of
-certificate_found bytes c e = whole_found certificate_text IsCertificate certificate_at Exact-certificate (feed_of bytes) c e
+certificate_found bytes c e =
+    let found = whole_found certificate_text IsCertificate certificate_at Exact-certificate (feed_of bytes) c e in
+    record { grammar = found.0; whole = found.1 }
 
-pub certificate_again : (bytes : List ℕ) (c : Certificate) → IsCertificate c → IsWhole certificate_text (feed_of bytes) c → certificate_of bytes ≡ Ok c
+pub certificate_again : (bytes : List ℕ) (c : Certificate) → SpellsCertificate bytes c → certificate_of bytes ≡ Ok c
 unfolding certificate_of
-certificate_again bytes c is whole = whole_again certificate_text IsCertificate certificate_at Exact-certificate (feed_of bytes) c is whole
+certificate_again bytes c spells = whole_again certificate_text IsCertificate certificate_at Exact-certificate (feed_of bytes) c spells.grammar spells.whole
 
-pub certificate_stops : (bytes : List ℕ) (line : ℕ) → certificate_of bytes ≡ Err line → RefusedLine certificate_text IsCertificate (feed_of bytes) line
+pub certificate_stops : (bytes : List ℕ) (line : ℕ) → certificate_of bytes ≡ Err line → RefusesCertificate bytes line
 unfolding certificate_of
 certificate_stops bytes line e = whole_stops certificate_text IsCertificate certificate_at Exact-certificate (feed_of bytes) line e
 
-pub certificate_refused : (bytes : List ℕ) (line : ℕ) → RefusedLine certificate_text IsCertificate (feed_of bytes) line → certificate_of bytes ≡ Err line
+pub certificate_refused : (bytes : List ℕ) (line : ℕ) → RefusesCertificate bytes line → certificate_of bytes ≡ Err line
 unfolding certificate_of
 certificate_refused bytes line at = whole_refused certificate_text IsCertificate certificate_at Exact-certificate (feed_of bytes) line at

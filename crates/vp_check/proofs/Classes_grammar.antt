@@ -9,9 +9,10 @@ use Rattle.std.proofs.lemmas.List.Elements.{All-from_recursion}
 use Rattle.vp_card.specs.Cards.{in_deck}
 use Rattle.vp_card.specs.Texts.{card_text}
 use Rattle.vp_card.specs.Reading.{card_of}
-use Rattle.vp_text.specs.Lines.{Word, next_is}
-use Rattle.vp_text.specs.Pieces.{ExactWord, so_many}
-use Rattle.vp_text.specs.Sections.{Exact, ExactLine, Keeps, on_item, Finish, rows_text, AreRows}
+use Rattle.vp_text.specs.Lines.{Word}
+use Rattle.vp_text.specs.Reading.{next_is}
+use Rattle.vp_text.specs.Pieces.{so_many}
+use Rattle.vp_text.specs.ExactReaders.{Exact, Keeps, on_item, Finish, rows_text, AreRows, ExactText}
 use Rattle.vp_text.specs.Numbers.{number_of, number_within}
 use Rattle.vp_text.proofs.Numbers.{number_exact, number_within_exact}
 use Rattle.vp_text.proofs.Pieces.{both_true, bound, at_end, chosen, no_value, so, took, Exact-key_word, Exact-so_many, Exact-one_word}
@@ -53,10 +54,10 @@ deal_below n cards is = of_all (λ card. card < n) cards is.set.below
 
 -- ---- a class line
 
-Exact-weight : ExactWord decimal (λ weight. (1 ≤ weight) × (weight ≤ 24)) (number_within 1 24)
+Exact-weight : ExactText decimal (λ weight. (1 ≤ weight) × (weight ≤ 24)) (number_within 1 24)
 Exact-weight = number_within_exact 1 24 (omega arith)
 
-Exact-mask : ExactWord decimal (λ mask. (0 ≤ mask) × (mask ≤ 31)) (number_within 0 31)
+Exact-mask : ExactText decimal (λ mask. (0 ≤ mask) × (mask ≤ 31)) (number_within 0 31)
 Exact-mask = number_within_exact 0 31 (omega arith)
 
 -- the words of a line out of its pieces
@@ -111,7 +112,7 @@ class_again n line most is =
     let value : number_of (decimal line.value) ≡ Some line.value = number_exact.again line.value is.value in
     rw (cards, weight, mask, value, increasing-rises line.hand is.deal.set.rising, below_all n line.hand below)
 
-pub Exact-class : (n : ℕ) → n ≤ 53 → ExactLine class_words (IsClassLine n) (class_of n)
+pub Exact-class : (n : ℕ) → n ≤ 53 → ExactText class_words (IsClassLine n) (class_of n)
 Exact-class n most = record {
   takes = λ words line read. class_taken n words line read;
   again = λ line is. class_again n line most is;
@@ -230,7 +231,7 @@ row_again n front (inr r) most is =
     ap (λ (b : Bool). cond b (option_map as_return (return_of (words_of_return r))) (option_map as_class (next_class_of n front (words_of_return r)))) this
     ∙ ap (option_map as_return) (return_again r is)
 
-Exact-row : (n : ℕ) → n ≤ 53 → (front : List ClassLine) → ExactLine row_words (RowRule n front) (class_or_return n front)
+Exact-row : (n : ℕ) → n ≤ 53 → (front : List ClassLine) → ExactText row_words (RowRule n front) (class_or_return n front)
 Exact-row n most front = record {
   takes = λ words row read. row_taken n front words row most read;
   again = λ row is. row_again n front row most is;

@@ -3,8 +3,8 @@ use Rattle.std.proofs.Common.{◌≡◌, ℕ, ◌+◌, Bool, true, false, cond, 
 use Rattle.std.specs.Prelude.{Option, option_map, Result, Ok, Err, codes, is_some}
 use Rattle.std.proofs.lemmas.List.{append-nil}
 use Rattle.std.proofs.lemmas.Slice.Eq.{bytes_eq-Decides}
-use Rattle.vp_text.specs.Lines.{Word, WordLine, Feed, behind, next_is}
-use Rattle.vp_text.specs.Reading.{◌>>=◌, by_row, rows_at}
+use Rattle.vp_text.specs.Lines.{Word, WordLine, Feed}
+use Rattle.vp_text.specs.Reading.{behind, next_is, ◌>>=◌, by_row, rows_at}
 use Rattle.vp_text.proofs.Spelled.{ok_is, err_is}
 use Rattle.vp_suit.specs.Classes.{representatives}
 use Rattle.vp_check.specs.Counting.{return_behind, one_more, counted_at, counted, counted_rows}
@@ -13,7 +13,7 @@ use Rattle.vp_check.specs.Rows.{in_front, numbered_classes}
 use Rattle.vp_check.specs.declared.class_line.ClassLine.{ClassLine}
 use Rattle.vp_check.specs.declared.counted.Counted.{Counted}
 use Rattle.vp_check.specs.declared.numbered.Numbered.{Numbered}
-use Rattle.vp_check.proofs.Follows.{Follows}
+use Rattle.vp_text.proofs.Follows.{Follows}
 
 abbrev pub classes_of : List Numbered → List ClassLine
 classes_of rows = map (λ (row : Numbered). row.class) rows

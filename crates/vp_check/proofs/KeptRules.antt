@@ -6,9 +6,10 @@ use Rattle.std.proofs.lemmas.Bool.Decides.{nat_tests}
 use Rattle.std.proofs.lemmas.Bool.{eq-eqb, eqb-true}
 use Rattle.std.proofs.lemmas.List.Elements.{All-nil, All-cons, All-head, All-tail}
 use Rattle.vp_pay.specs.declared.table.PayTable.{PayTable}
-use Rattle.vp_sets.specs.Sets.{choose, IsBelow, IsRising}
+use Rattle.vp_card.specs.Rising.{IsBelow, IsRising}
+use Rattle.vp_sets.specs.Sets.{choose}
 use Rattle.vp_sets.specs.Index.{set_index}
-use Rattle.vp_sets.proofs.Rising.{below_down}
+use Rattle.vp_card.proofs.Rising.{below_down}
 use Rattle.vp_draws.specs.Draws.{best, value}
 use Rattle.vp_suit.specs.Classes.{is_representative, weight}
 use Rattle.vp_check.specs.Certificates.{Certificate}

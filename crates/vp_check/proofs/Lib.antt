@@ -4,10 +4,11 @@ pub mod Certificates_grammar
 pub mod Classes_grammar
 pub mod KeptRules
 pub mod TrueOnes
-pub mod Follows
+pub mod EveryDeals
 pub mod Counted_grammar
 pub mod Read_grammar
 pub mod Lines_grammar
 pub mod Walked
 pub mod Verdicts
 pub mod Answered
+pub mod PlainCertificates

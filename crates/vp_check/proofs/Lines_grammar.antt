@@ -55,7 +55,7 @@ class_place c front =
 pub class_stands : (bytes : List ℕ) (c : Certificate) (front back : List ClassLine) (line : ClassLine) → certificate_of bytes ≡ Ok c → c.classes ≡ front ++ line ∷ back
     → Stands (feed_of bytes) (line_number c (feed_of bytes) (length front + 1)) (class_words line)
 class_stands bytes c front back line says classes =
-    let whole : text_of (feed_of bytes).lines ≡ certificate_text c = (certificate_found bytes c says).1 in
+    let whole : text_of (feed_of bytes).lines ≡ certificate_text c = (certificate_found bytes c says).whole in
     let rest : Text = map class_words back ++ last_lines c in
     let lines : map class_words c.classes ≡ map class_words front ++ class_words line ∷ map class_words back = ap (map class_words) classes ∙ map-append class_words front (line ∷ back) in
     let text : text_of (feed_of bytes).lines ≡ (bet_in_front c ++ map class_words front) ++ class_words line ∷ rest =
@@ -69,7 +69,7 @@ class_stands bytes c front back line says classes =
 pub return_stands : (bytes : List ℕ) (c : Certificate) → certificate_of bytes ≡ Ok c
     → Stands (feed_of bytes) (line_number c (feed_of bytes) (length c.classes + 1)) (return_words c.sum c.denominator)
 return_stands bytes c says =
-    let whole : text_of (feed_of bytes).lines ≡ certificate_text c = (certificate_found bytes c says).1 in
+    let whole : text_of (feed_of bytes).lines ≡ certificate_text c = (certificate_found bytes c says).whole in
     let text : text_of (feed_of bytes).lines ≡ (bet_in_front c ++ map class_words c.classes) ++ last_lines c =
     whole ∙ (behind_bet c ∙ sym (append_assoc (bet_in_front c) (map class_words c.classes) (last_lines c))) in
     stands_behind c (feed_of bytes) (length c.classes + 1) (bet_in_front c ++ map class_words c.classes) (return_words c.sum c.denominator) ((codes "end" ∷ []) ∷ []) text (class_place c c.classes)

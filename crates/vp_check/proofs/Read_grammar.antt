@@ -25,7 +25,7 @@ use Rattle.vp_check.specs.declared.numbered.Numbered.{Numbered}
 use Rattle.vp_check.specs.declared.read_certificate.ReadCertificate.{ReadCertificate}
 use Rattle.vp_check.proofs.Certificates_grammar.{Exact-bet, certificate_found}
 use Rattle.vp_check.proofs.Counted_grammar.{classes_of, lines_of, numbers_of, RowsSeen, rows_follow}
-use Rattle.vp_check.proofs.Follows.{Follows, follows_made, follows_same, follows_then}
+use Rattle.vp_text.proofs.Follows.{Follows, follows_made, follows_same, follows_then}
 
 -- ---- numbers of lines
 
@@ -254,7 +254,7 @@ is_read bytes r e =
     let t = whole_ok (feed_of bytes) _ _ (text_seen (feed_of bytes)) r e in
     record {
       says = t.says;
-      certificate = (certificate_found bytes (certificate_read r) t.says).0;
+      certificate = (certificate_found bytes (certificate_read r) t.says).grammar;
       count = sym t.count;
       lines = are_at (certificate_read r) (feed_of bytes) t.lines.before t.lines.front (t.lines.at ∷ t.lines.rest) r.rows 1 t.lines.split t.lines.many t.lines.same;
       return_line = return_at (certificate_read r) (feed_of bytes) r.rows r.return_line t.lines;

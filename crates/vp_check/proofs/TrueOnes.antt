@@ -1,30 +1,28 @@
 -- What true certificates say of all deals, and the true certificate whose masks are the least best ones.
-use Rattle.std.proofs.Common.{◌≡◌, ℕ, ◌+◌, ◌*◌, ◌<◌, ◌≤◌, Bool, true, false, ◌==◌, None, List, [], ◌∷◌, length, map, get_or, refl, ap, sym, subst, ◌∙◌, arith, lit≤}
+use Rattle.std.proofs.Common.{◌≡◌, ℕ, ◌+◌, ◌*◌, ◌<◌, ◌≤◌, true, None, List, [], ◌∷◌, length, map, get_or, refl, ap, sym, subst, ◌∙◌, arith}
 use Rattle.std.specs.List.{All, sum_by}
 use Rattle.std.specs.List.Sorted.{IsStrictlyIncreasing}
 use Rattle.std.proofs.lemmas.List.{length-map}
-use Rattle.std.proofs.lemmas.List.Elements.{All-head, All-tail, All-map, All-contains}
+use Rattle.std.proofs.lemmas.List.Elements.{All-head, All-tail, All-map}
 use Rattle.std.proofs.lemmas.List.Sums.{sum_by-cons}
 use Rattle.vp_pay.specs.declared.table.PayTable.{PayTable}
 use Rattle.vp_pay.specs.Table.{IsTable}
 use Rattle.vp_sets.specs.Index.{set_index}
-use Rattle.vp_sets.proofs.Rising.{rising_from}
+use Rattle.vp_card.proofs.Rising.{rising_from}
 use Rattle.vp_sets.proofs.Colex.{increasing_from}
 use Rattle.vp_draws.specs.Draws.{best, least_best, sum_of_best, value}
 use Rattle.vp_draws.proofs.Chosen.{least_best_small, least_best_value, value_le_best}
 use Rattle.vp_draws.proofs.Bounds.{best_fits, sum_of_best_fits}
-use Rattle.vp_draws.proofs.TurnedValues.{best_by_classes, best_from}
-use Rattle.vp_suit.specs.Heaps.{heap}
-use Rattle.vp_suit.specs.Turns.{turn}
+use Rattle.vp_draws.proofs.TurnedValues.{best_by_classes}
 use Rattle.vp_suit.specs.Classes.{IsDeal, is_representative, representatives, weight}
 use Rattle.vp_suit.proofs.TurnedDraws.{dealt_is}
-use Rattle.vp_suit.proofs.Weights.{images_by, images-1, images-4, images-6, images-12, images-24}
-use Rattle.vp_suit.proofs.Representatives.{weight_is}
+use Rattle.vp_suit.proofs.Weights.{weight_few}
 use Rattle.vp_suit.proofs.ClassLaws.{representatives_only, representatives_rise}
 use Rattle.vp_suit.proofs.Cover.{weights_of_all, cover}
 use Rattle.vp_check.specs.Certificates.{Certificate, IsCertificate, IsClassLine}
+use Rattle.vp_check.specs.EveryDeal.{SumsAllDeals}
 use Rattle.vp_check.specs.Rules.{denominator_of}
-use Rattle.vp_check.specs.Truth.{AllWalked, hands, KeepsRules, IsTrueOver, IsTrueCertificate, due_line, due_certificate, SumsAllDeals, HoldsAreBest}
+use Rattle.vp_check.specs.Truth.{AllWalked, hands, KeepsRules, IsTrueOver, IsTrueCertificate, due_line, due_certificate}
 use Rattle.vp_check.specs.declared.class_line.ClassLine.{ClassLine}
 use Rattle.vp_check.proofs.Breaches.{denominator_fits}
 use Rattle.vp_check.proofs.KeptRules.{all_kept, kept_all, each_kept, each_walked, rising_lines, from_parts}
@@ -74,6 +72,21 @@ all_walked_true from count c is low high e =
       denominator = k.denominator;
     })
 
+-- a true certificate is true over whatever lines are walked
+pub true_anywhere : (from count : ℕ) (c : Certificate) → IsCertificate c → IsTrueCertificate c → IsTrueOver from count c
+true_anywhere from count c is e =
+    let k : KeepsRules 1 (length c.classes) c = keeps_rules 1 (length c.classes) c is e in
+    rules_kept from count c (record {
+      least = k.least;
+      rising = k.rising;
+      weights = k.weights;
+      values = λ i d l a b. k.values i d l (omega arith) (omega arith);
+      masks = λ i d l a b. k.masks i d l (omega arith) (omega arith);
+      cover = k.cover;
+      sum = k.sum;
+      denominator = k.denominator;
+    })
+
 -- ---- sums over class lines are sums over their cards
 
 sum_same : (f : ClassLine → ℕ) (g : List ℕ → ℕ) (lines : List ClassLine) → All (λ line. f line ≡ g line.hand) lines → sum_by f lines ≡ sum_by g (map (λ line. line.hand) lines)
@@ -86,9 +99,6 @@ sum_same f g (line ∷ lines) h =
     omega arith
 
 -- ---- true certificates
-
-all_both : {X : Type 0} (P Q : X → Type 0) (xs : List X) → All P xs → All Q xs → All (λ x. P x × Q x) xs
-all_both P Q xs p q k d l = (p k d l, q k d l)
 
 -- the class lines of a true certificate are all representatives
 pub true_classes : (from count : ℕ) (c : Certificate) → IsCertificate c → KeepsRules from count c → hands c ≡ representatives c.table.deck
@@ -119,36 +129,14 @@ sums_all_deals c is e =
     let k : KeepsRules 1 (length c.classes) c = keeps_rules 1 (length c.classes) c is e in
     record { classes = true_classes 1 (length c.classes) c is k; sum = true_sum c is k; denominator = k.denominator }
 
-pub holds_are_best : (c : Certificate) → IsCertificate c → IsTrueCertificate c → HoldsAreBest c
-holds_are_best c is e t mask cards line lt lm d there same held =
-    let k : KeepsRules 1 (length c.classes) c = keeps_rules 1 (length c.classes) c is e in
-    let masks : All (λ line. value c.table c.coin line.hand line.mask ≡ best c.table c.coin line.hand) c.classes =
-    all_walked (λ line. value c.table c.coin line.hand line.mask ≡ best c.table c.coin line.hand) c.classes k.masks in
-    let here : value c.table c.coin line.hand line.mask ≡ best c.table c.coin line.hand = All-contains (λ x. value c.table c.coin x.hand x.mask ≡ best c.table c.coin x.hand) c.classes line masks there in
-    let turned : value c.table c.coin (turn t cards) line.mask ≡ best c.table c.coin (turn t cards) = subst (λ (x : List ℕ). value c.table c.coin x line.mask ≡ best c.table c.coin x) same here in
-    best_from t mask c.coin c.table cards is.table.least_deck lt d (ap (λ m. value c.table c.coin (turn t cards) m) held ∙ turned)
-
 -- ---- the true certificate with the least best masks
 
-images_few : (a b c : Bool) → (1 ≤ images_by a b c) × (images_by a b c ≤ 24)
-images_few true true true = rw images-1 (lit≤ tt, lit≤ tt)
-images_few true true false = rw images-4.0 (lit≤ tt, lit≤ tt)
-images_few false true true = rw images-4.1 (lit≤ tt, lit≤ tt)
-images_few true false true = rw images-6 (lit≤ tt, lit≤ tt)
-images_few true false false = rw images-12.0 (lit≤ tt, lit≤ tt)
-images_few false true false = rw images-12.1 (lit≤ tt, lit≤ tt)
-images_few false false true = rw images-12.2 (lit≤ tt, lit≤ tt)
-images_few false false false = rw images-24 (lit≤ tt, lit≤ tt)
-
-weight_few : (n : ℕ) (cards : List ℕ) → 52 ≤ n → IsDeal n cards → is_representative cards ≡ true → (1 ≤ weight cards) × (weight cards ≤ 24)
-weight_few n cards big d stands = rw (weight_is n cards big d stands) (images_few (heap 0 cards == heap 1 cards) (heap 1 cards == heap 2 cards) (heap 2 cards == heap 3 cards))
-
-due_class_line : (table : PayTable) (coin : ℕ) (cards : List ℕ) → IsTable table → IsDeal table.deck cards → is_representative cards ≡ true → IsClassLine table.deck (due_line table coin cards)
+due_class_line : (table : PayTable) (coin : ℕ) (cards : List ℕ) → IsTable table → IsDeal table.deck cards → IsClassLine table.deck (due_line table coin cards)
 unfolding due_line
-due_class_line table coin cards t d stands = record {
+due_class_line table coin cards t d = record {
   deal = d;
-  some_weight = (weight_few table.deck cards t.least_deck d stands).0;
-  most_weight = (weight_few table.deck cards t.least_deck d stands).1;
+  some_weight = (weight_few cards).0;
+  most_weight = (weight_few cards).1;
   mask = least_best_small table coin cards;
   value = best_fits table coin cards t (dealt_is table.deck cards d);
 }
@@ -159,7 +147,7 @@ due_is_certificate table coin t some most = record {
   table = t;
   some_coin = some;
   most_coin = most;
-  classes = All-map (IsClassLine table.deck) (due_line table coin) (representatives table.deck) (λ i d l. let r = representatives_only table.deck i d l in due_class_line table coin (get_or (representatives table.deck) i d) t r.0 r.1);
+  classes = All-map (IsClassLine table.deck) (due_line table coin) (representatives table.deck) (λ i d l. due_class_line table coin (get_or (representatives table.deck) i d) t (representatives_only table.deck i d l).0);
   most_classes = omega (arith, length-map (representatives table.deck) (due_line table coin));
   sum = sum_of_best_fits table coin t;
   denominator = denominator_fits table.deck coin t.least_deck t.greatest_deck (let m : table.coins ≤ 5 = t.most_coins in omega arith);

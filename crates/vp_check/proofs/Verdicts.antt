@@ -5,7 +5,7 @@ use Rattle.std.specs.Option.{IsSomeAnd}
 use Rattle.std.proofs.lemmas.List.{length-map}
 use Rattle.vp_text.specs.Lines.{Feed, feed_of}
 use Rattle.vp_check.specs.Certificates.{Certificate}
-use Rattle.vp_check.specs.Checking.{certificate_of, line_number, bad_at, verdict, answer_of, check_result}
+use Rattle.vp_check.specs.Checking.{certificate_of, line_number, bad_at, verdict, check_result}
 use Rattle.vp_check.specs.Read.{IsRead, certificate_read}
 use Rattle.vp_check.specs.Rules.{first_of, at, Break, cover_breach, sum_breach, denominator_breach, return_breach, class_break, first_break}
 use Rattle.vp_check.specs.Walks.{classes_of, IsPassed, IsFound}
@@ -16,20 +16,17 @@ use Rattle.vp_check.specs.declared.read_certificate.ReadCertificate.{ReadCertifi
 use Rattle.vp_check.specs.declared.finding.Checked.{Checked}
 use Rattle.vp_check.specs.declared.finding.Finding.{Finding}
 use Rattle.vp_check.specs.declared.finding.Finding.TheVariants.{Bad, Refused}
+use Rattle.vp_check.proofs.Answered.{answer_is, verdict_is}
 use Rattle.vp_check.proofs.KeptRules.{first_later, first_here}
 
 -- the answer to a refused text
 pub refused_is : (bytes : List ℕ) (from count line : ℕ) → certificate_of bytes ≡ Err line → Err (Refused line) ≡ check_result bytes from count
-unfolding check_result
-refused_is bytes from count line e = ap (λ (r : Result Certificate ℕ). answer_of from count (feed_of bytes) r) (sym e)
+refused_is bytes from count line e = sym (answer_is bytes from count (Err line) e)
 
 -- the answer to a certificate is the verdict on its first broken rule
-pub verdict_is : (bytes : List ℕ) (from count : ℕ) (r : ReadCertificate) (b : Option Break) → IsRead bytes r → first_break from count (certificate_read r) ≡ b
+read_is : (bytes : List ℕ) (from count : ℕ) (r : ReadCertificate) (b : Option Break) → IsRead bytes r → first_break from count (certificate_read r) ≡ b
     → verdict from count (certificate_read r) (feed_of bytes) b ≡ check_result bytes from count
-unfolding check_result
-verdict_is bytes from count r b is e =
-    ap (λ (x : Option Break). verdict from count (certificate_read r) (feed_of bytes) x) (sym e)
-    ∙ ap (λ (x : Result Certificate ℕ). answer_of from count (feed_of bytes) x) (sym is.says)
+read_is bytes from count r b is e = sym (verdict_is bytes from count (certificate_read r) b is.says e)
 
 found_break : (from count : ℕ) (c : Certificate) (feed : Feed) (finding : Finding) (o : Option Break) → class_break c.table c.coin from count c.classes ≡ o → IsSomeAnd o (λ b. finding ≡ bad_at c feed b)
     → verdict from count c feed (first_break from count c) ≡ Err finding
@@ -42,7 +39,7 @@ found_break from count c feed finding (Some b) e h =
 pub found_is : (bytes : List ℕ) (from count : ℕ) (r : ReadCertificate) (finding : Finding) → IsRead bytes r → IsFound r.table r.coin from count r.rows finding → Err finding ≡ check_result bytes from count
 found_is bytes from count r finding is f =
     sym (found_break from count (certificate_read r) (feed_of bytes) finding (class_break r.table r.coin from count (classes_of r.rows)) refl (f.breaks (certificate_read r) (feed_of bytes) is.lines))
-    ∙ verdict_is bytes from count r (first_break from count (certificate_read r)) is refl
+    ∙ read_is bytes from count r (first_break from count (certificate_read r)) is refl
 
 -- the first broken rule of the return, by sums that were reckoned
 return_is : (c : Certificate) (weights values : ℕ) → weights ≡ sum_by (λ line. line.weight) c.classes → values ≡ sum_by (λ line. line.weight * line.value) c.classes
@@ -70,7 +67,7 @@ broken_is bytes from count r p b breach finding is passed e some f =
     let line : r.return_line ≡ line_number c (feed_of bytes) (length c.classes + 1) = is.return_line ∙ ap (λ place. line_number c (feed_of bytes) place) many in
     let here : first_break from count c ≡ Some (record { place = length c.classes + 1; breach = breach }) =
     passed_break from count c p (Some breach) passed (sym some ∙ e) in
-    ap (λ (x : Finding). Err x) (f ∙ ap (λ l. Bad l breach.rule breach.said breach.due) line) ∙ verdict_is bytes from count r (Some (record { place = length c.classes + 1; breach = breach })) is here
+    ap (λ (x : Finding). Err x) (f ∙ ap (λ l. Bad l breach.rule breach.said breach.due) line) ∙ read_is bytes from count r (Some (record { place = length c.classes + 1; breach = breach })) is here
 
 abbrev checked_with : ℕ → ℕ → ℕ → ℕ → Checked
 checked_with classes walked sum denominator = record { classes = classes; walked = walked; sum = sum; denominator = denominator }
@@ -83,4 +80,4 @@ passed_is bytes from count r p b is passed e none =
     let c : Certificate = certificate_read r in
     ap (λ (x : ℕ). Ok (checked_with x p.walked r.sum r.denominator)) passed.many
     ∙ ap (λ (x : ℕ). Ok (checked_with (length c.classes) x r.sum r.denominator)) passed.walked
-    ∙ verdict_is bytes from count r None is (passed_break from count c p None passed (sym none ∙ e))
+    ∙ read_is bytes from count r None is (passed_break from count c p None passed (sym none ∙ e))

@@ -1,8 +1,8 @@
 -- How a certificate is read when no class line is kept: they are counted, and read again later.
 use Rattle.std.specs.Prelude.{◌≡◌, ℕ, ◌+◌, Bool, ◌&&◌, nat_lt, List, [], ◌∷◌, length, Option, Some, None, is_some, Result, Ok, Err, codes, if◌then◌else◌}
-use Rattle.vp_text.specs.Lines.{Word, WordLine, Feed, behind, next_is, feed_of}
-use Rattle.vp_text.specs.Sections.{Reader}
-use Rattle.vp_text.specs.Reading.{both, mapped, whole}
+use Rattle.vp_text.specs.Lines.{Word, WordLine, Feed, feed_of}
+use Rattle.vp_text.specs.Reading.{behind, next_is, both, mapped, whole}
+use Rattle.vp_text.specs.ExactReaders.{Reader}
 use Rattle.vp_text.specs.declared.refused.Refused.{Refused}
 use Rattle.vp_pay.specs.Sections.{table_at}
 use Rattle.vp_pay.specs.declared.table.PayTable.{PayTable}
@@ -41,6 +41,7 @@ counted_rows n feed = mapped (λ c. (numbered_classes n feed.lines, c)) (counted
 abbrev pub ReadParts : Type 0
 ReadParts = PayTable × (ℕ × ((List Numbered × Counted) × Unit {0}))
 
+-- what is kept of these parts
 abbrev pub read_from : ReadParts → ReadCertificate
 read_from p = record {
   table = p.0;
@@ -52,6 +53,7 @@ read_from p = record {
   denominator = p.1.1.0.1.denominator;
 }
 
+-- the parts, one after another
 abbrev pub read_parts_at : Reader ReadParts
 read_parts_at = both table_at (λ table. both (bet_line table.coins) (λ coin. both (counted_rows table.deck) (λ rows. end_line)))
 

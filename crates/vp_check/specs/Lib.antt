@@ -7,5 +7,6 @@ pub mod Rows
 pub mod Rules
 pub mod Spelling
 pub mod Truth
+pub mod EveryDeal
 pub mod Walks
 pub mod Answers

@@ -3,11 +3,11 @@ use Rattle.std.specs.Prelude.{ℕ, Bool, true, ◌&&◌, nat_lt, List, [], ◌�
 use Rattle.std.proofs.Common.{inl, inr}
 use Rattle.vp_card.specs.Cards.{in_deck}
 use Rattle.vp_card.specs.Reading.{card_of}
-use Rattle.vp_text.specs.Lines.{Word, next_is}
+use Rattle.vp_text.specs.Lines.{Word}
+use Rattle.vp_text.specs.Reading.{next_is, one_line, both, rows, mapped}
 use Rattle.vp_text.specs.Numbers.{number_of, number_within}
 use Rattle.vp_text.specs.Pieces.{◌>>=◌, one_word, so_many, key_word, ended, keyed}
-use Rattle.vp_text.specs.Reading.{one_line, both, rows, mapped}
-use Rattle.vp_text.specs.Sections.{Reader}
+use Rattle.vp_text.specs.ExactReaders.{Reader}
 use Rattle.vp_pay.specs.Sections.{table_at}
 use Rattle.vp_pay.specs.declared.table.PayTable.{PayTable}
 use Rattle.vp_suit.specs.Classes.{representatives}
@@ -41,6 +41,7 @@ class_of n words = do
 abbrev pub may_follow : ℕ → List ClassLine → ClassLine → Option ClassLine
 may_follow n lines line = if nat_lt (length lines) (length (representatives n)) then Some line else None
 
+-- a class line behind these
 unfoldable pub next_class_of : ℕ → List ClassLine → List Word → Option ClassLine
 next_class_of n lines words = do
   line ← class_of n words
@@ -68,6 +69,7 @@ unfoldable pub class_or_return : ℕ → List ClassLine → List Word → Option
 class_or_return n lines words =
     if next_is (codes "return") words then option_map inr (return_of words) else option_map inl (next_class_of n lines words)
 
+-- class lines up to the return
 abbrev pub class_lines : ℕ → Reader (List ClassLine × (ℕ × ℕ))
 class_lines n = rows (class_or_return n)
 
@@ -77,6 +79,7 @@ end_of words = do
   key ← key_word (codes "end") words
   ended tt key.1
 
+-- the last line
 abbrev pub end_line : Reader (Unit {0})
 end_line = one_line end_of
 
@@ -84,9 +87,11 @@ end_line = one_line end_of
 abbrev pub CertificateParts : Type 0
 CertificateParts = PayTable × (ℕ × ((List ClassLine × (ℕ × ℕ)) × Unit {0}))
 
+-- a certificate from its parts
 abbrev pub certificate_from : CertificateParts → Certificate
 certificate_from p = record { table = p.0; coin = p.1.0; classes = p.1.1.0.0; sum = p.1.1.0.1.0; denominator = p.1.1.0.1.1 }
 
+-- the parts, one after another; the deck of the table tells which cards a class line may have
 abbrev pub certificate_parts_at : Reader CertificateParts
 certificate_parts_at = both table_at (λ table. both (bet_line table.coins) (λ coin. both (class_lines table.deck) (λ classes. end_line)))
 

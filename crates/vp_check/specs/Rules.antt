@@ -35,6 +35,7 @@ abbrev pub rows_from : ℕ → Option ℕ → List ClassLine → List Row
 rows_from place before [] = []
 rows_from place before (line ∷ lines) = record { place = place; before = before; line = line } ∷ rows_from (place + 1) (Some (set_index line.hand)) lines
 
+-- all class lines of a certificate
 abbrev pub rows : List ClassLine → List Row
 rows lines = rows_from 1 None lines
 
@@ -104,6 +105,7 @@ pub record Break : Type 0 where
   pub place : ℕ
   pub breach : Breach
 
+-- what is broken at a place, if anything is
 abbrev pub at : ℕ → Option Breach → Option Break
 at place breach = option_map (λ b. record { place = place; breach = b }) breach
 

@@ -1,13 +1,12 @@
--- True certificates, and what they say of all deals.
+-- True certificates.
 use Rattle.std.specs.Prelude.{◌≡◌, ℕ, ◌+◌, ◌*◌, ◌<◌, ◌≤◌, true, List, length, map, sum_by, slice_index_or, None}
-use Rattle.std.specs.List.{All, Contains}
+use Rattle.std.specs.List.{All}
 use Rattle.std.specs.List.Sorted.{IsStrictlyIncreasing}
 use Rattle.vp_pay.specs.declared.table.PayTable.{PayTable}
 use Rattle.vp_draws.specs.Draws.{best, least_best, sum_of_best, value}
 use Rattle.vp_sets.specs.Index.{set_index}
 use Rattle.vp_sets.specs.Sets.{choose}
-use Rattle.vp_suit.specs.Classes.{IsDeal, is_representative, representatives, weight}
-use Rattle.vp_suit.specs.Turns.{turn, carried}
+use Rattle.vp_suit.specs.Classes.{is_representative, representatives, weight}
 use Rattle.vp_check.specs.Certificates.{Certificate}
 use Rattle.vp_check.specs.Rules.{first_break, denominator_of}
 use Rattle.vp_check.specs.declared.class_line.ClassLine.{ClassLine}
@@ -53,15 +52,3 @@ due_certificate table coin = record {
   sum = sum_of_best table coin;
   denominator = denominator_of table.deck coin;
 }
-
--- a true certificate lists every class, its sum is the sum of the best values of all deals over the denominator of the deck and the bet
-pub record SumsAllDeals (c : Certificate) : Type 0 where
-  pub classes : hands c ≡ representatives c.table.deck
-  pub sum : c.sum ≡ sum_of_best c.table c.coin
-  pub denominator : c.denominator ≡ denominator_of c.table.deck c.coin
-
--- each hold of a deal that a turn carries to the mask of its class is best
-abbrev pub HoldsAreBest : Certificate → Type 0
-HoldsAreBest c = (t mask : ℕ) (cards : List ℕ) (line : ClassLine) → t < 24 → mask < 32 → IsDeal c.table.deck cards → Contains c.classes line
-    → line.hand ≡ turn t cards → carried t cards mask ≡ line.mask
-    → value c.table c.coin cards mask ≡ best c.table c.coin cards

@@ -1,13 +1,11 @@
 //! The check of a certificate that uses none of what wrote it.
 
 ghost use Rattle.std.specs.Prelude.{◌≡◌, ◌≤◌, ◌<◌, ◌↔◌, ℕ, List, length, Ok, Err};
-ghost use Rattle.vp_text.specs.Lines.{feed_of};
-ghost use Rattle.vp_text.specs.Sections.{RefusedLine};
 ghost use Rattle.vp_check.specs.Answers.{IsBad, IsChecked};
 ghost use Rattle.vp_check.specs.Certificates.{IsCertificate};
 ghost use Rattle.vp_check.specs.Checking.{check_result};
 ghost use Rattle.vp_check.specs.Read.{IsRead, certificate_read};
-ghost use Rattle.vp_check.specs.Spelling.{certificate_text};
+ghost use Rattle.vp_check.specs.Spelling.{RefusesCertificate};
 ghost use Rattle.vp_check.specs.declared.finding.CertRule.{CertRule};
 ghost use Rattle.vp_check.specs.declared.finding.Checked.{Checked};
 ghost use Rattle.vp_check.specs.declared.finding.Finding.TheVariants.{Bad, Refused};
@@ -31,7 +29,7 @@ pub fn check(bytes: &[u8], from: u32, count: u32) -> Result<Checked, Finding>
     // Checked is a text that spells a certificate that is true over the walked lines, and no other.
     ensures checked { (r : Checked) → result ≡ Ok r ↔ IsChecked bytes.now from count r }
     // Refused is the first line with which the lines so far begin no certificate, or the one past the end.
-    ensures refused { (line : ℕ) → result ≡ Err (Refused line) ↔ RefusedLine certificate_text IsCertificate (feed_of bytes.now) line }
+    ensures refused { (line : ℕ) → result ≡ Err (Refused line) ↔ RefusesCertificate bytes.now line }
     // Bad is the first broken rule of the first line that breaks one.
     ensures bad { (line : ℕ) (rule : CertRule) (said due : ℕ) → result ≡ Err (Bad line rule said due) ↔ IsBad bytes.now from count (Bad line rule said due) }
     ensures value { result ≡ check_result bytes.now from count }

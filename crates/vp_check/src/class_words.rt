@@ -2,25 +2,12 @@
 
 ghost use Rattle.std.specs.Prelude.{◌≡◌, Some, None, ◌&&◌, IfSome, if◌then◌else◌};
 ghost use Rattle.vp_card.specs.Cards.{in_deck};
-ghost use Rattle.vp_card.specs.Reading.{card_of};
-ghost use Rattle.vp_text.specs.Pieces.{Takes, so_many};
 ghost use Rattle.vp_check.specs.Reading.{class_of, rises};
 
 use crate::ClassLine;
-use vp_card::{Card, Hand};
-use vp_pay::next_card;
+use vp_card::{Card, Hand, in_deck};
+use vp_pay::five_cards;
 use vp_text::{Words, key_word, next_number, next_number_within};
-
-fn five_cards(words: &mut Words) -> Option<[Card; 5]>
-    ensures { Takes (λ cards. cards) result words.new.words (so_many card_of 5 words.old.words) }
-{
-    let first = next_card(words)?;
-    let second = next_card(words)?;
-    let third = next_card(words)?;
-    let fourth = next_card(words)?;
-    let fifth = next_card(words)?;
-    Some([first, second, third, fourth, fifth])
-}
 
 /// Whether each card is above the card before.
 fn rises(cards: &[Card; 5]) -> bool
@@ -28,13 +15,6 @@ fn rises(cards: &[Card; 5]) -> bool
 {
     let [a, b, c, d, e] = *cards;
     a < b && b < c && c < d && d < e
-}
-
-/// Whether the cards are of a deck of so many.
-fn in_deck(cards: &[Card], deck: u8) -> bool
-    ensures { result ≡ in_deck deck cards.now }
-{
-    cards.iter().all(|card| card.number() < deck)
 }
 
 /// The hand of five cards of the deck that stand in rising order.

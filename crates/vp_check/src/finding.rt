@@ -35,7 +35,7 @@ pub struct Checked {
 /// Where a certificate fails.
 #[derive(Clone, Copy, Debug, PartialEq, Eq)]
 pub enum Finding {
-    /// The first line with which the lines so far begin no certificate.
+    /// The first line with which the lines so far begin no certificate, or the one past the end.
     Refused {
         line: u32,
     },

@@ -7,7 +7,8 @@ ghost use Rattle.vp_pay.specs.declared.table.PayTable.{PayTable};
 ghost use Rattle.vp_draws.specs.Draws.{least_best};
 ghost use Rattle.vp_suit.specs.Classes.{representatives};
 ghost use Rattle.vp_check.specs.Certificates.{Certificate, IsCertificate};
-ghost use Rattle.vp_check.specs.Truth.{HoldsAreBest, IsTrueCertificate, IsTrueOver, KeepsRules, SumsAllDeals, due_certificate, hands};
+ghost use Rattle.vp_check.specs.EveryDeal.{TellsEveryDeal, TellsWalkedDeals};
+ghost use Rattle.vp_check.specs.Truth.{IsTrueCertificate, IsTrueOver, KeepsRules, due_certificate, hands};
 
 /// What it says that no line of a certificate breaks a rule, where the class lines of a range are walked: its cards are all
 /// least images, rising by index, with their weights; walked lines have the best value and a best hold; and the return is that
@@ -18,13 +19,22 @@ pub fn certificates_keep_rules()
     ensures classes { (from count : ℕ) (c : Certificate) → IsCertificate c → IsTrueOver from count c → hands c ≡ representatives c.table.deck }
     // Where all class lines are walked, the certificate is true.
     ensures all { (from count : ℕ) (c : Certificate) → IsCertificate c → from ≤ 1 → length c.classes < from + count → IsTrueOver from count c → IsTrueCertificate c }
+    // A true certificate is true over whatever lines are walked.
+    ensures any { (from count : ℕ) (c : Certificate) → IsCertificate c → IsTrueCertificate c → IsTrueOver from count c }
 {}
 
-/// A certificate that is true over all its lines sums the best values of all deals, and a hold that a turn carries to the
-/// mask of the deal's class is best.
+/// A certificate that is true over all its lines tells every deal: each deal of the deck has a printed hold, one that some
+/// turn of the suits carries to the mask of the deal's class; each printed hold is worth what its line says, and no other of
+/// the 32 holds is worth more; and the sum is that of the best values of all deals.
 pub fn true_certificates()
-    ensures sums { (c : Certificate) → IsCertificate c → IsTrueCertificate c → SumsAllDeals c }
-    ensures holds { (c : Certificate) → IsCertificate c → IsTrueCertificate c → HoldsAreBest c }
+    ensures { (c : Certificate) → IsCertificate c → IsTrueCertificate c → TellsEveryDeal c }
+{}
+
+/// A certificate that is true over the walked lines tells the deals of their classes: whatever hold of such a deal some turn of
+/// the suits carries to the mask of the walked line, it is worth what this line says, and no other of the 32 holds is worth more.
+#[tactic(auto, using(crate::proofs::EveryDeals::walked_tell))]
+pub fn walked_lines_tell_their_deals()
+    ensures { (from count : ℕ) (c : Certificate) → IsCertificate c → IsTrueOver from count c → TellsWalkedDeals from count c }
 {}
 
 /// For each pay table and each bet that it has there is one true certificate with the least best masks.

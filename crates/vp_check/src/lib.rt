@@ -23,5 +23,11 @@ mod walk;
 pub use checker::check;
 pub use class_line::ClassLine;
 pub use finding::{CertRule, Checked, Finding};
-pub use laws::{certificates_keep_rules, due_certificate_is_true, true_certificates};
-pub use spellings::{certificate_spellings_differ, certificates_are_spelled, lines_have_numbers};
+pub use laws::{
+    certificates_keep_rules, due_certificate_is_true, true_certificates,
+    walked_lines_tell_their_deals,
+};
+pub use spellings::{
+    certificate_spellings_differ, certificates_are_spelled, lines_have_numbers,
+    written_certificates_are_read,
+};

@@ -1,10 +1,10 @@
 //! Certificates, read line by line.
 
 ghost use Rattle.std.specs.Prelude.{◌≡◌, ◌≤◌, ◌⊎◌, ◌&&◌, nat_lt, is_some, codes, length, Err, IfOk, IfErr};
-ghost use Rattle.vp_text.specs.Lines.{Feed, behind};
+ghost use Rattle.vp_text.specs.Lines.{Feed};
+ghost use Rattle.vp_text.specs.Reading.{behind, Gives};
 ghost use Rattle.vp_text.specs.Numbers.{number_within};
 ghost use Rattle.vp_text.specs.Pieces.{keyed};
-ghost use Rattle.vp_text.specs.Reading.{Gives};
 ghost use Rattle.vp_check.specs.Checking.{certificate_of};
 ghost use Rattle.vp_check.specs.Counting.{counted, one_more, read_of, Says};
 ghost use Rattle.vp_check.specs.Read.{IsRead};

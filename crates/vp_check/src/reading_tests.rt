@@ -6,9 +6,6 @@ use std::test::*;
 
 const TABLE: &[u8] = b"table t\ndeck 52\nwild none\ncoins 2\nline royal royal either 1 2\nend\n";
 
-const BET: &[u8] =
-    b"table t\ndeck 52\nwild none\ncoins 2\nline royal royal either 1 2\nend\ncert 2\n";
-
 const CLASS: &[u8] = b"class 2c 3c 4c 5c 7c 24 31 18446744073709551615\n";
 
 const TWO: &[u8] =
@@ -96,7 +93,8 @@ fn lines_out_of_form_are_refused(rt: HostRuntime) -> Result<(), Fail> {
 /// A certificate of so many equal class lines.
 fn class_lines(alloc: Global, count: u32) -> Result<Vec<u8>, AllocError> {
     let mut text = Vec::new(alloc);
-    text.extend_from_slice(BET)?;
+    text.extend_from_slice(TABLE)?;
+    text.extend_from_slice(b"cert 2\n")?;
     for _ in 0..count {
         text.extend_from_slice(CLASS)?;
     }

@@ -46,7 +46,6 @@ pub(crate) fn index_of_hand(hand: &Hand) -> u32
 fn image_breach(hand: &Hand) -> Option<Breach>
     ensures { result ≡ image_breach hand.now }
 {
-    let _ = hand.numbers();
     let index = index_of_hand(hand);
     let (image, _) = least_image(hand);
     let least = index_of_hand(&image);
@@ -88,27 +87,6 @@ fn weight_breach(line: &ClassLine) -> Option<Breach>
     )
 }
 
-/// The value of the mask of a class line whose best hold is known.
-fn value_of_mask<L: Ledger>(
-    table: &PayTable,
-    coin: u8,
-    line: &ClassLine,
-    best: &Best,
-    steps: &mut Steps<L>,
-) -> u64
-    requires table { IsTable table.now }
-    requires coin_from { 1 ≤ coin }
-    requires coin_to { coin ≤ table.now.coins }
-    requires cards { in_deck table.now.deck line.now.hand ≡ true }
-    requires known { best.now.value ≡ value table.now coin line.now.hand best.now.mask }
-    ensures { result ≡ value table.now coin line.now.hand line.now.mask }
-{
-    if line.mask == best.mask {
-        return best.value;
-    }
-    value_of(table, coin, &line.hand, line.mask, steps)
-}
-
 /// The value is the greatest of the 32 holds, and the mask has it.
 #[tactic(auto, unfolding(crate::specs::Rules::value_breach, crate::specs::Rules::mask_breach))]
 fn walked_breach<L: Ledger>(
@@ -128,7 +106,11 @@ fn walked_breach<L: Ledger>(
     if line.value != best.value {
         return broken_if(true, CertRule::Value, u128::from(line.value), due);
     }
-    let worth = value_of_mask(table, coin, line, &best, steps);
+    let worth = if line.mask == best.mask {
+        best.value
+    } else {
+        value_of(table, coin, &line.hand, line.mask, steps)
+    };
     broken_if(worth < best.value, CertRule::Mask, u128::from(worth), due)
 }
 

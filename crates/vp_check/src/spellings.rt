@@ -1,11 +1,13 @@
 //! Laws of the spelling of certificates, each the contract of a function that does nothing.
 
 ghost use Rattle.std.specs.Prelude.{◌≡◌, ◌↔◌, ◌+◌, ℕ, List, ◌∷◌, ◌++◌, length, Ok, Err};
-ghost use Rattle.vp_text.specs.Lines.{feed_of};
-ghost use Rattle.vp_text.specs.Sections.{Text, IsWhole, RefusedLine};
+ghost use Rattle.vp_text.specs.Lines.{Feed, feed_of};
+ghost use Rattle.vp_text.specs.Sections.{Text, text_of};
+ghost use Rattle.vp_text.specs.Written.{written};
 ghost use Rattle.vp_check.specs.Certificates.{Certificate, IsCertificate};
 ghost use Rattle.vp_check.specs.Checking.{Stands, certificate_of, line_number};
-ghost use Rattle.vp_check.specs.Spelling.{certificate_text, class_words, return_words};
+ghost use Rattle.vp_check.specs.Reading.{certificate_at};
+ghost use Rattle.vp_check.specs.Spelling.{RefusesCertificate, SpellsCertificate, certificate_text, class_words, return_words};
 ghost use Rattle.vp_check.specs.declared.class_line.ClassLine.{ClassLine};
 
 /// Different certificates have different spellings, and no spelling begins another one.
@@ -16,9 +18,9 @@ pub fn certificate_spellings_differ()
 /// What a text says.
 pub fn certificates_are_spelled()
     // A text says a certificate where its lines are the spelling of this certificate, and nothing else.
-    ensures says { (bytes : List ℕ) (c : Certificate) → certificate_of bytes ≡ Ok c ↔ IsCertificate c × IsWhole certificate_text (feed_of bytes) c }
+    ensures says { (bytes : List ℕ) (c : Certificate) → certificate_of bytes ≡ Ok c ↔ SpellsCertificate bytes c }
     // It is refused at the first line with which the lines so far begin no certificate, or at the one past the end.
-    ensures refused { (bytes : List ℕ) (line : ℕ) → certificate_of bytes ≡ Err line ↔ RefusedLine certificate_text IsCertificate (feed_of bytes) line }
+    ensures refused { (bytes : List ℕ) (line : ℕ) → certificate_of bytes ≡ Err line ↔ RefusesCertificate bytes line }
 {}
 
 /// The number that a place has is that of the line that says what stands at this place.
@@ -29,4 +31,14 @@ pub fn lines_have_numbers()
     // The return stands behind the last class line.
     ensures last { (bytes : List ℕ) (c : Certificate) → certificate_of bytes ≡ Ok c
         → Stands (feed_of bytes) (line_number c (feed_of bytes) (length c.classes + 1)) (return_words c.sum c.denominator) }
+{}
+
+/// A certificate that was written is read again.
+#[tactic(auto, using(crate::proofs::PlainCertificates::written_certificate, crate::proofs::PlainCertificates::written_whole))]
+pub fn written_certificates_are_read()
+    // The lines behind it are left.
+    ensures again { (c : Certificate) (more : List ℕ) → IsCertificate c
+        → (left : Feed) × (certificate_at (feed_of (written (certificate_text c) ++ more)) ≡ Ok (c, left)) × (text_of left.lines ≡ text_of (feed_of more).lines) }
+    // Where nothing is behind it, it is what the text says.
+    ensures whole { (c : Certificate) → IsCertificate c → certificate_of (written (certificate_text c)) ≡ Ok c }
 {}

@@ -1,7 +1,11 @@
 //! Texts with one thing wrong.
 
+use crate::CertRule::{Cover, Mask, Order, Value, Weight};
 use crate::{CertRule, Checked, Finding, check};
 use arrayvec::ArrayVec;
+use std::test::*;
+use vp_io::MemSink;
+use vp_pay::PayTable;
 
 /// Pays 1 for a hand with the joker.
 const ONE: &[u8] = b"table one-joker
@@ -21,24 +25,7 @@ line royal royal either 0
 end
 ";
 
-/// The one-column table of 9/6 Jacks or Better.
-const JACKS: &[u8] = b"table jacks-9-6
-deck 52
-wild none
-coins 1
-line royal royal either 800
-line straight-flush straight-flush either 50
-line quads quads any either 25
-line full-house full-house either 9
-line flush flush either 6
-line straight straight either 4
-line trips trips either 3
-line two-pair two-pair either 2
-line high-pair pair JQKA either 1
-end
-";
-
-/// The answer to a table and these lines; None where they are too long.
+/// The answer to a table and these lines behind it; None where they are too long.
 fn answer(table: &[u8], lines: &[u8], from: u32, count: u32) -> Option<Result<Checked, Finding>> {
     let mut text = ArrayVec::<u8, 1024>::new();
     text.try_extend_from_slice(table).ok()?;
@@ -46,17 +33,18 @@ fn answer(table: &[u8], lines: &[u8], from: u32, count: u32) -> Option<Result<Ch
     Some(check(text.as_slice(), from, count))
 }
 
-fn bad(line: u32, rule: CertRule, said: u128, due: u128) -> Option<Result<Checked, Finding>> {
-    Some(Err(Finding::Bad {
-        line,
-        rule,
-        said,
-        due,
-    }))
-}
-
-fn refused(line: u32) -> Option<Result<Checked, Finding>> {
-    Some(Err(Finding::Refused { line }))
+/// The answer to a certificate for one coin with these class lines, whose return is 0.
+fn verdict(
+    table: &[u8],
+    classes: &[u8],
+    from: u32,
+    count: u32,
+) -> Option<Result<Checked, Finding>> {
+    let mut lines = ArrayVec::<u8, 256>::new();
+    lines.try_extend_from_slice(b"cert 1\n").ok()?;
+    lines.try_extend_from_slice(classes).ok()?;
+    lines.try_extend_from_slice(b"return 0 / 0\nend\n").ok()?;
+    answer(table, lines.as_slice(), from, count)
 }
 
 #[test]
@@ -73,110 +61,64 @@ fn refused_texts(rt: HostRuntime) {
         (b"cert 1\nreturn 0 / 0\nend\n\nend\n", 11),
     ];
     for (lines, line) in cases {
-        assert_eq!(rt; answer(ONE, lines, 1, 1), refused(line));
+        assert_eq!(rt;
+            answer(ONE, lines, 1, 1),
+            Some(Err(Finding::Refused { line }))
+        );
     }
 }
 
-#[test]
-fn no_class_lines(rt: HostRuntime) {
-    let lines = b"cert 1\nreturn 0 / 0\nend\n";
-    assert_eq!(rt;
-        answer(ZERO, lines, 1, 9),
-        bad(8, CertRule::Cover, 0, 2598960)
-    );
-    assert_eq!(rt;
-        answer(ONE, lines, 1, 9),
-        bad(8, CertRule::Cover, 0, 2869685)
-    );
+fn bad(line: u32, rule: CertRule, said: u128, due: u128) -> Finding {
+    Finding::Bad {
+        line,
+        rule,
+        said,
+        due,
+    }
 }
 
+// Class lines for one coin, of which some from a place on are walked: the place, their number, and what breaks a rule first.
 #[test]
-fn class_lines_out_of_order(rt: HostRuntime) {
-    let no_least_image = b"cert 1
-class 2c 2d 2h 2s 3d 4 0 891825
-return 0 / 0
-end
-";
-    assert_eq!(rt;
-        answer(ONE, no_least_image, 0, 0),
-        bad(8, CertRule::Order, 1, 0)
-    );
-    let twice = b"cert 1
-class 2c 2d 2h 3c 3d 12 0 0
-class 2c 2d 2h 3c 3d 12 0 0
-return 0 / 0
-end
-";
-    assert_eq!(rt; answer(ONE, twice, 0, 0), bad(9, CertRule::Order, 2, 2));
-    let falling = b"cert 1
-class 2c 2d 2h 3c 3d 12 0 0
-class 2c 2d 2h 2s 3c 5 0 0
-return 0 / 0
-end
-";
-    assert_eq!(rt; answer(ONE, falling, 0, 0), bad(9, CertRule::Order, 0, 2));
+fn first_broken_rules(rt: HostRuntime) {
+    let no_image = b"class 2c 2d 2h 2s 3d 4 0 891825\n".as_slice();
+    let twice = b"class 2c 2d 2h 3c 3d 12 0 0\nclass 2c 2d 2h 3c 3d 12 0 0\n".as_slice();
+    let falling = b"class 2c 2d 2h 3c 3d 12 0 0\nclass 2c 2d 2h 2s 3c 5 0 0\n".as_slice();
+    let most = b"class 2c 2d 2h 2s 3c 4 1 18446744073709551615\n".as_slice();
+    let worse = b"class 2c 2d 2h 2s 3c 4 1 891825\n".as_slice();
+    let cases: [(&[u8], &[u8], u32, u32, Finding); 7] = [
+        (ZERO, b"", 1, 9, bad(8, Cover, 0, 2598960)),
+        (ONE, b"", 1, 9, bad(8, Cover, 0, 2869685)),
+        (ONE, no_image, 0, 0, bad(8, Order, 1, 0)),
+        (ONE, twice, 0, 0, bad(9, Order, 2, 2)),
+        (ONE, falling, 0, 0, bad(9, Order, 0, 2)),
+        (ONE, most, 0, 2, bad(8, Value, 18446744073709551615, 891825)),
+        (ONE, worse, 1, 1, bad(8, Mask, 713460, 891825)),
+    ];
+    for (table, classes, from, count, due) in cases {
+        assert_eq!(rt; verdict(table, classes, from, count), Some(Err(due)));
+    }
 }
 
+// The same behind the built-in table of 9/6 Jacks or Better.
 #[test]
-fn weight_off_by_one(rt: HostRuntime) {
-    let lines = b"cert 1
-class 2c 2d 2h 2s 3c 5 15 191742376
-return 0 / 0
-end
-";
-    assert_eq!(rt; answer(JACKS, lines, 1, 1), bad(16, CertRule::Weight, 5, 4));
-}
-
-#[test]
-fn wrong_value(rt: HostRuntime) {
-    let one_more = b"cert 1
-class 2c 2d 2h 2s 3c 4 15 191742376
-return 0 / 0
-end
-";
-    assert_eq!(rt;
-        answer(JACKS, one_more, 1, 1),
-        bad(16, CertRule::Value, 191742376, 191742375)
-    );
-    // A line that isn't walked may say any value.
-    assert_eq!(rt;
-        answer(JACKS, one_more, 2, 4294967295),
-        bad(17, CertRule::Cover, 4, 2598960)
-    );
-    let greatest = b"cert 1
-class 2c 2d 2h 2s 3c 4 1 18446744073709551615
-return 0 / 0
-end
-";
-    assert_eq!(rt;
-        answer(ONE, greatest, 0, 2),
-        bad(8, CertRule::Value, 18446744073709551615, 891825)
-    );
-}
-
-#[test]
-fn worse_mask(rt: HostRuntime) {
-    let lines = b"cert 1
-class 2c 2d 2h 2s 3c 4 1 891825
-return 0 / 0
-end
-";
-    assert_eq!(rt;
-        answer(ONE, lines, 1, 1),
-        bad(8, CertRule::Mask, 713460, 891825)
-    );
-}
-
-// All five cards are worth as much as the four of a kind alone.
-#[test]
-fn any_best_mask(rt: HostRuntime) {
-    let lines = b"cert 1
-class 2c 2d 2h 2s 3c 4 31 191742375
-return 0 / 0
-end
-";
-    assert_eq!(rt;
-        answer(JACKS, lines, 1, 1),
-        bad(17, CertRule::Cover, 4, 2598960)
-    );
+fn first_broken_rules_of_jacks_or_better(rt: HostRuntime) -> Result<(), Fail> {
+    let mut room = [0; 1024];
+    let mut sink = MemSink::new(&mut room, 1024, &[]);
+    let table = PayTable::built_in(0).ok_or("no table")?;
+    assert!(rt; table.write(&mut sink).is_ok());
+    let heavy = b"class 2c 2d 2h 2s 3c 5 15 191742376\n".as_slice();
+    let one_more = b"class 2c 2d 2h 2s 3c 4 15 191742376\n".as_slice();
+    // All five cards are worth as much as the four of a kind alone.
+    let all_five = b"class 2c 2d 2h 2s 3c 4 31 191742375\n".as_slice();
+    let cases: [(&[u8], u32, u32, Finding); 4] = [
+        (heavy, 1, 1, bad(16, Weight, 5, 4)),
+        (one_more, 1, 1, bad(16, Value, 191742376, 191742375)),
+        // A line that isn't walked may say any value.
+        (one_more, 2, 4294967295, bad(17, Cover, 4, 2598960)),
+        (all_five, 1, 1, bad(17, Cover, 4, 2598960)),
+    ];
+    for (classes, from, count, due) in cases {
+        assert_eq!(rt; verdict(sink.taken(), classes, from, count), Some(Err(due)));
+    }
+    Ok(())
 }

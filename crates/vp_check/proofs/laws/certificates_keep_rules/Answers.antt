@@ -1,4 +1,4 @@
-use Rattle.vp_check.proofs.TrueOnes.{keeps_rules, rules_kept, true_classes, all_walked_true}
+use Rattle.vp_check.proofs.TrueOnes.{keeps_rules, rules_kept, true_classes, all_walked_true, true_anywhere}
 use Rattle.vp_check.proofs.laws.certificates_keep_rules.Goals as goal
 
 pub returns-clause-rules : goal.returns-clause-rules
@@ -9,3 +9,6 @@ returns-clause-classes g from count c is e = true_classes from count c is (keeps
 
 pub returns-clause-all : goal.returns-clause-all
 returns-clause-all g from count c is low high e = all_walked_true from count c is low high e
+
+pub returns-clause-any : goal.returns-clause-any
+returns-clause-any g from count c is e = true_anywhere from count c is e

@@ -2,7 +2,7 @@ use Rattle.vp_check.proofs.Certificates_grammar.{certificate_found, certificate_
 use Rattle.vp_check.proofs.spellings.certificates_are_spelled.Goals as goal
 
 pub returns-clause-says : goal.returns-clause-says
-returns-clause-says g = λ bytes c. (λ e. certificate_found bytes c e, λ is. certificate_again bytes c is.0 is.1)
+returns-clause-says g = λ bytes c. (certificate_found bytes c, certificate_again bytes c)
 
 pub returns-clause-refused : goal.returns-clause-refused
-returns-clause-refused g = λ bytes line. (λ e. certificate_stops bytes line e, λ at. certificate_refused bytes line at)
+returns-clause-refused g = λ bytes line. (certificate_stops bytes line, certificate_refused bytes line)
