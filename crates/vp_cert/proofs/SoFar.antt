@@ -21,7 +21,7 @@ use Rattle.vp_draws.proofs.Bounds.{sum_of_best_fits}
 use Rattle.vp_check.specs.declared.class_line.ClassLine.{ClassLine}
 use Rattle.vp_check.specs.Spelling.{class_words}
 use Rattle.vp_check.specs.Truth.{due_line}
-use Rattle.vp_cert.specs.Holds.{one_more_asked}
+use Rattle.vp_io.specs.Causes.{one_more}
 use Rattle.vp_io.specs.Puts.{Puts}
 use Rattle.vp_io.proofs.Puts_laws.{Puts_none, Puts_next, Puts_halted}
 
@@ -85,15 +85,14 @@ lines_append table coin front back =
 lines_cons : (table : PayTable) (coin : ℕ) (cards : List ℕ) (rest : List (List ℕ)) → lines table coin (cards ∷ rest) ≡ line_of (class_words (due_line table coin cards)) ++ lines table coin rest
 lines_cons table coin cards rest = refl
 
-asked_le : (asked now : ℕ) → now ≡ one_more_asked asked → now ≤ asked + 1
-unfolding one_more_asked
+asked_le : (asked now : ℕ) → now ≡ one_more asked → now ≤ asked + 1
 asked_le asked now is = grind (arith, nat_tests)
 
 -- one more class was put, and added up
 pub next : (table : PayTable) (coin : ℕ) (cards : List ℕ) (left rest : List (List ℕ)) (total next_total value : ℕ) (line : ClassLine) (old mid new : Option (List ℕ)) (before between now first asked next_asked : ℕ)
     (one : Result (Unit {0}) WriteFault) (done : Unit {0})
     → left ≡ cards ∷ rest → line ≡ due_line table coin cards → one ≡ Ok done → Puts mid new between now one (line_of (class_words line))
-    → next_asked ≡ one_more_asked asked → next_total ≡ total + value → value ≡ line.weight * line.value
+    → next_asked ≡ one_more asked → next_total ≡ total + value → value ≡ line.weight * line.value
     → SoFar table coin left total old mid before between first asked → SoFar table coin rest next_total old new before now first next_asked
 unfolding due_line
 next table coin cards left rest total next_total value line old mid new before between now first asked next_asked one done is due ok put counted added valued so =
@@ -122,7 +121,7 @@ stopped table coin cards left rest total line old mid new before between now fir
 
 -- how often a best hold was asked for, with the next class
 pub next_asked : (table : PayTable) (coin : ℕ) (cards : List ℕ) (left rest : List (List ℕ)) (total : ℕ) (old new : Option (List ℕ)) (before now first asked now_asked : ℕ)
-    → left ≡ cards ∷ rest → now_asked ≡ one_more_asked asked → SoFar table coin left total old new before now first asked → now_asked ≤ first + length (representatives table.deck)
+    → left ≡ cards ∷ rest → now_asked ≡ one_more asked → SoFar table coin left total old new before now first asked → now_asked ≤ first + length (representatives table.deck)
 next_asked table coin cards left rest total old new before now first asked now_asked is counted so =
     let all : length (representatives table.deck) ≡ length so.seen + length (cards ∷ rest) = ap length (so.all ∙ ap (λ (l : List (List ℕ)). so.seen ++ l) is) ∙ length-append so.seen (cards ∷ rest) in
     omega (arith, asked_le asked now_asked counted, so.asks)

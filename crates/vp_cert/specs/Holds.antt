@@ -1,6 +1,9 @@
--- How often the best hold of a hand was asked for.
-use Rattle.std.specs.Prelude.{ℕ, ◌+◌, nat_lt, if◌then◌else◌}
+-- What a counting source of best holds tells.
+use Rattle.std.specs.Prelude.{ℕ}
+use Rattle.vp_pay.specs.declared.table.PayTable.{PayTable}
 
--- one hand more; the count stands at 2^64 - 1
-unfoldable pub one_more_asked : ℕ → ℕ
-one_more_asked asked = if nat_lt asked 18446744073709551615 then asked + 1 else asked
+-- a pay table, a bet, and how many best holds were asked for
+pub record Asking : Type 0 where
+  pub table : PayTable
+  pub bet : ℕ
+  pub count : ℕ

@@ -1,8 +1,7 @@
 //! The best holds of a game, which are counted as they are asked for.
 
-ghost use Rattle.std.specs.Prelude.{◌≡◌};
-
 use crate::Holds;
+use std::marker::Model;
 use vp_card::Hand;
 use vp_draws::Best;
 use vp_hold::Game;
@@ -15,11 +14,21 @@ pub struct Asked<'a> {
     count: u64,
 }
 
+impl<'a> Model for Asked<'a> {
+    ghost use Rattle.vp_cert.specs.Holds.{Asking};
+
+    ghost Value = { Asking };
+
+    ghost view = { λ a. record { table = a.game.now.table; bet = a.game.now.coin; count = a.count } };
+}
+
 impl<'a> Asked<'a> {
+    ghost use Rattle.std.specs.Prelude.{◌≡◌};
+
     /// A game of which nothing was asked.
     pub fn new(game: &'a Game<'a>) -> Asked<'a>
-        ensures table { result.game.now.table ≡ game.now.table }
-        ensures coin { result.game.now.coin ≡ game.now.coin }
+        ensures table { result.table ≡ game.now.table }
+        ensures bet { result.bet ≡ game.now.coin }
         ensures unasked { result.count ≡ 0 }
     {
         Asked { game, count: 0 }
@@ -34,9 +43,9 @@ impl<'a> Asked<'a> {
 }
 
 impl<'a> Holds for Asked<'a> {
-    ghost pays = { λ a. a.game.now.table };
+    ghost pays = { λ a. a.table };
 
-    ghost bet = { λ a. a.game.now.coin };
+    ghost bet = { λ a. a.bet };
 
     ghost asked = { λ a. a.count };
 

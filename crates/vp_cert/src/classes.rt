@@ -8,7 +8,7 @@ ghost use Rattle.vp_suit.specs.Classes.{representatives, weight};
 ghost use Rattle.vp_draws.specs.Draws.{sum_of_best};
 ghost use Rattle.vp_check.specs.Spelling.{class_words};
 ghost use Rattle.vp_check.specs.Truth.{due_line};
-ghost use Rattle.vp_cert.specs.Holds.{one_more_asked};
+ghost use Rattle.vp_io.specs.Causes.{one_more};
 ghost use Rattle.vp_io.specs.Puts.{Puts};
 
 use crate::Holds;
@@ -51,7 +51,7 @@ fn due_line<H: Holds>(holds: &mut H, class: &Class) -> ClassLine
     ensures line { result ≡ due_line (H.pays holds.old) (H.bet holds.old) class.now.hand }
     ensures same_table { H.pays holds.new ≡ H.pays holds.old }
     ensures same_coin { H.bet holds.new ≡ H.bet holds.old }
-    ensures counted { H.asked holds.new ≡ one_more_asked (H.asked holds.old) }
+    ensures counted { H.asked holds.new ≡ one_more (H.asked holds.old) }
 {
     let best = holds.best(&class.hand);
     ClassLine {

@@ -1,6 +1,6 @@
 //! One table with a joker, certified into a sink that counts bytes and into one that fails.
 
-ghost use Rattle.std.specs.Prelude.{◌≡◌, ◌<◌, ◌≤◌, IfSome, length};
+ghost use Rattle.std.specs.Prelude.{◌≡◌, ◌<◌, length};
 ghost use Rattle.vp_pay.specs.Table.{IsTable};
 ghost use Rattle.vp_count.specs.Table.{first_word};
 
@@ -23,16 +23,6 @@ line joker wilds 1 either 1
 end
 ";
 
-fn read_table(text: &[u8]) -> Option<PayTable>
-    requires { length text.now ≤ 67108864 }
-    ensures { IfSome result (λ table. IsTable table) }
-{
-    match PayTable::read(&mut Lines::new(text)) {
-        Ok(table) => Some(table),
-        Err(_) => None,
-    }
-}
-
 /// The sum of the best values, where all lines were put, and how many best holds were asked for.
 fn certified<L: Ledger, K: Sink>(
     table: &PayTable,
@@ -52,15 +42,23 @@ fn certified<L: Ledger, K: Sink>(
     (sum, holds.count())
 }
 
+/// The same for the table with a joker, into the sink.
+fn one_joker_into<K: Sink>(rt: &HostRuntime, sink: &mut K) -> Result<(Option<u128>, u64), Fail> {
+    let table = PayTable::read(&mut Lines::new(ONE_JOKER))
+        .ok()
+        .ok_or("the table is refused")?;
+    let mut words = vec![in rt.alloc(); 7u64; table_words(table.deck)]?;
+    Ok(certified::<Brand, K>(&table, &mut words, sink, Blank::new(1)))
+}
+
 // The best holds keep the joker where it is dealt, and draw five cards where it is not.
 #[test]
 fn one_joker(rt: HostRuntime) -> Result<(), Fail> {
-    let table = read_table(ONE_JOKER).ok_or("the table is refused")?;
-    let mut words = vec![in rt.alloc(); 7u64; table_words(table.deck)]?;
     let mut sink = CountSink::new();
-    let (sum, asked) = certified::<Brand, CountSink>(&table, &mut words, &mut sink, Blank::new(1));
-    assert_eq!(rt; sum, Some(4635635004000));
-    assert_eq!(rt; asked, 150891);
+    assert_eq!(rt;
+        one_joker_into(&rt, &mut sink)?,
+        (Some(4635635004000), 150891)
+    );
     assert!(rt; sink.bytes() > 150891 * 30);
     Ok(())
 }
@@ -68,13 +66,9 @@ fn one_joker(rt: HostRuntime) -> Result<(), Fail> {
 // The third write fails, so the sink has the first two lines.
 #[test]
 fn third_write_fails(rt: HostRuntime) -> Result<(), Fail> {
-    let table = read_table(ONE_JOKER).ok_or("the table is refused")?;
-    let mut words = vec![in rt.alloc(); 7u64; table_words(table.deck)]?;
     let mut room = [0; 100];
     let mut sink = MemSink::new(&mut room, 100, &[3]);
-    let (sum, asked) = certified::<Brand, MemSink>(&table, &mut words, &mut sink, Blank::new(1));
-    assert_eq!(rt; sum, None);
-    assert_eq!(rt; asked, 0);
+    assert_eq!(rt; one_joker_into(&rt, &mut sink)?, (None, 0));
     assert_eq!(rt; sink.taken(), b"table one-joker\ndeck 53\n".as_slice());
     Ok(())
 }
