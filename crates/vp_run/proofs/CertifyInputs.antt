@@ -2,7 +2,8 @@
 use Rattle.std.proofs.Common.{◌≡◌, ℕ, List, [], sym, ◌∙◌, append-nil, inl, inr}
 use Rattle.std.specs.Prelude.{Ok, Err}
 use Rattle.vp_text.specs.Lines.{Feed, feed_of}
-use Rattle.vp_text.specs.Sections.{Text, Exact, Begins, both_text, AreBoth, RefusedLine, RefusedInput}
+use Rattle.vp_text.specs.Sections.{Text, Begins, both_text, AreBoth, RefusedLine, RefusedInput}
+use Rattle.vp_text.specs.ExactReaders.{Exact}
 use Rattle.vp_text.specs.Reading.{nothing}
 use Rattle.vp_text.proofs.Sections.{Exact-nothing}
 use Rattle.vp_text.proofs.Whole.{fitted_found, fitted_again, fitted_stops, fitted_refused}
@@ -22,43 +23,38 @@ no_text a u = []
 abbrev AnyUnit : {A : Type 0} → A → Unit {0} → Type 0
 AnyUnit a u = Unit {0}
 
-alone : {A : Type 0} (spell : A → Text) (Valid : A → Type 0) (text : Text) → Begins (both_text spell no_text) (AreBoth Valid AnyUnit) text → Begins spell Valid text
-alone spell Valid text b = record { value = b.value.0; valid = b.valid.0; more = b.more; spelled = sym (append-nil (spell b.value.0)) ∙ b.spelled }
+-- each valid value of one spelling has a valid one of the other that is spelled the same
+abbrev Respelled : {A B : Type 0} → (A → Text) → (A → Type 0) → (B → Text) → (B → Type 0) → Type 0
+Respelled {A} {B} spell Valid other Also = (a : A) → Valid a → (b : B) × Also b × (other b ≡ spell a)
 
-behind_it : {A : Type 0} (spell : A → Text) (Valid : A → Type 0) (text : Text) → Begins spell Valid text → Begins (both_text spell no_text) (AreBoth Valid AnyUnit) text
-behind_it spell Valid text b = record { value = (b.value, tt); valid = (b.valid, tt); more = b.more; spelled = append-nil (spell b.value) ∙ b.spelled }
+begins_as : {A B : Type 0} (spell : A → Text) (Valid : A → Type 0) (other : B → Text) (Also : B → Type 0) (text : Text) → Respelled spell Valid other Also → Begins spell Valid text → Begins other Also text
+begins_as spell Valid other Also text there b =
+    let same = there b.value b.valid in
+    record { value = same.0; valid = same.1; more = b.more; spelled = same.2 ∙ b.spelled }
 
-refused_alone : {A : Type 0} (spell : A → Text) (Valid : A → Type 0) (feed : Feed) (line : ℕ) → RefusedLine (both_text spell no_text) (AreBoth Valid AnyUnit) feed line → RefusedLine spell Valid feed line
-refused_alone spell Valid feed line (inl r) = inl (record {
+-- where the same texts are spelled, the same line is refused
+refused_as : {A B : Type 0} (spell : A → Text) (Valid : A → Type 0) (other : B → Text) (Also : B → Type 0) (feed : Feed) (line : ℕ)
+    → Respelled spell Valid other Also → Respelled other Also spell Valid → RefusedLine spell Valid feed line → RefusedLine other Also feed line
+refused_as spell Valid other Also feed line there back (inl r) = inl (record {
   front = r.front;
   line = r.line;
   rest = r.rest;
   lines = r.lines;
   number = r.number;
-  begun = alone spell Valid _ r.begun;
-  broken = λ b. r.broken (behind_it spell Valid _ b);
+  begun = begins_as spell Valid other Also _ there r.begun;
+  broken = λ b. r.broken (begins_as other Also spell Valid _ back b);
 })
-refused_alone spell Valid feed line (inr r) = inr (record {
+refused_as spell Valid other Also feed line there back (inr r) = inr (record {
   number = r.number;
-  begun = alone spell Valid _ r.begun;
-  none = λ value valid whole. r.none (value, tt) (valid, tt) (whole ∙ sym (append-nil (spell value)));
+  begun = begins_as spell Valid other Also _ there r.begun;
+  none = λ value valid whole. let same = back value valid in r.none same.0 same.1 (whole ∙ sym same.2);
 })
 
-refused_both : {A : Type 0} (spell : A → Text) (Valid : A → Type 0) (feed : Feed) (line : ℕ) → RefusedLine spell Valid feed line → RefusedLine (both_text spell no_text) (AreBoth Valid AnyUnit) feed line
-refused_both spell Valid feed line (inl r) = inl (record {
-  front = r.front;
-  line = r.line;
-  rest = r.rest;
-  lines = r.lines;
-  number = r.number;
-  begun = behind_it spell Valid _ r.begun;
-  broken = λ b. r.broken (alone spell Valid _ b);
-})
-refused_both spell Valid feed line (inr r) = inr (record {
-  number = r.number;
-  begun = behind_it spell Valid _ r.begun;
-  none = λ value valid whole. r.none value.0 valid.0 (whole ∙ append-nil (spell value.0));
-})
+alone : {A : Type 0} (spell : A → Text) (Valid : A → Type 0) → Respelled (both_text spell no_text) (AreBoth Valid AnyUnit) spell Valid
+alone spell Valid pair valid = (pair.0, valid.0, sym (append-nil (spell pair.0)))
+
+behind_it : {A : Type 0} (spell : A → Text) (Valid : A → Type 0) → Respelled spell Valid (both_text spell no_text) (AreBoth Valid AnyUnit)
+behind_it spell Valid value valid = ((value, tt), (valid, tt), append-nil (spell value))
 
 -- ---- the input of `certify`
 
@@ -79,11 +75,11 @@ table_again coin bytes pays (valid, fits, whole) =
 
 of_two : (coin : ℕ) (bytes : List ℕ) (line : ℕ) → RefusedInput table_text IsTable (has_bet coin) (λ (t : PayTable). no_text t) (λ t. AnyUnit t) (feed_of bytes) line → RefusesTable coin bytes line
 of_two coin bytes line (inl misfit) = inl misfit
-of_two coin bytes line (inr (fits, refused)) = inr (fits, refused_alone table_text IsTable (feed_of bytes) line refused)
+of_two coin bytes line (inr (fits, refused)) = inr (fits, refused_as (both_text table_text no_text) (AreBoth IsTable AnyUnit) table_text IsTable (feed_of bytes) line (alone table_text IsTable) (behind_it table_text IsTable) refused)
 
 to_two : (coin : ℕ) (bytes : List ℕ) (line : ℕ) → RefusesTable coin bytes line → RefusedInput table_text IsTable (has_bet coin) (λ (t : PayTable). no_text t) (λ t. AnyUnit t) (feed_of bytes) line
 to_two coin bytes line (inl misfit) = inl misfit
-to_two coin bytes line (inr (fits, refused)) = inr (fits, refused_both table_text IsTable (feed_of bytes) line refused)
+to_two coin bytes line (inr (fits, refused)) = inr (fits, refused_as table_text IsTable (both_text table_text no_text) (AreBoth IsTable AnyUnit) (feed_of bytes) line (behind_it table_text IsTable) (alone table_text IsTable) refused)
 
 table_stops : (coin : ℕ) (bytes : List ℕ) (line : ℕ) → certify_input coin bytes ≡ Err line → RefusesTable coin bytes line
 unfolding certify_input

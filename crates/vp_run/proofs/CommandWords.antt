@@ -1,23 +1,16 @@
 -- What is known of a command from its words alone.
-use Rattle.std.proofs.Common.{◌≡◌, ℕ, ◌≤◌, ◌-◌, Bool, true, false, ◌&&◌, nat_le, List, [], ◌∷◌, Option, Some, None, arith, refl, if◌then◌else◌}
-use Rattle.std.proofs.lemmas.Bool.Decides.{nat_tests}
+use Rattle.std.proofs.Common.{◌≡◌, ℕ, ◌≤◌, Bool, true, false, List, [], ◌∷◌, Option, Some, None, arith, if◌then◌else◌}
 use Rattle.std.specs.Prelude.{bytes_eq, codes, option_map}
 use Rattle.vp_text.specs.Lines.{Word}
 use Rattle.vp_text.specs.Numbers.{number_within}
+use Rattle.vp_text.proofs.Numbers.{number_within_exact}
 use Rattle.vp_text.specs.Pieces.{◌>>=◌}
 use Rattle.vp_run.specs.Commands.{bet_command_of, check_of, coin_of, command_of}
 use Rattle.vp_run.specs.declared.command.Command.TheVariants.{Certify, Check, Deal, Tables}
 
-some_digit : (least most : Bool) (digit coin : ℕ) → nat_le 49 digit ≡ least → (if least && most then Some (digit - 48) else None) ≡ Some coin → 1 ≤ coin
-some_digit true true digit coin range is = let same : digit - 48 ≡ coin = cc in grind (arith, nat_tests)
-some_digit true false digit coin range is = absurd (cc)
-some_digit false most digit coin range is = absurd (cc)
-
 some_coin : (word : Word) (coin : ℕ) → coin_of word ≡ Some coin → 1 ≤ coin
 unfolding coin_of
-some_coin [] coin is = absurd (cc)
-some_coin (digit ∷ []) coin is = some_digit (nat_le 49 digit) (nat_le digit 53) digit coin refl is
-some_coin (digit ∷ next ∷ more) coin is = absurd (cc)
+some_coin word coin is = ((number_within_exact 1 5 (omega arith)).takes word coin is).0.0
 
 -- the bet that is read, is the bet of the command
 same_coin : (read : Option ℕ) (coin : ℕ) → option_map Certify read ≡ Some (Certify coin) → read ≡ Some coin

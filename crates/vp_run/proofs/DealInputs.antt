@@ -3,11 +3,11 @@ use Rattle.std.proofs.Common.{◌≡◌, ℕ, Bool, true, false, List, [], ◌�
 use Rattle.std.specs.Prelude.{Result, Ok, Err}
 use Rattle.vp_card.specs.Cards.{in_order}
 use Rattle.vp_text.specs.Lines.{WordLine, Feed, feed_of}
-use Rattle.vp_text.specs.Sections.{Exact}
+use Rattle.vp_text.specs.ExactReaders.{Exact}
 use Rattle.vp_text.specs.Reading.{◌>>=◌, fitting, whole, ended}
 use Rattle.vp_text.proofs.Whole.{fitted_found, fitted_again, fitted_stops, fitted_refused}
 use Rattle.vp_text.proofs.Spelled.{ok_is, err_is}
-use Rattle.vp_pay.specs.Deal.{IsDeal}
+use Rattle.vp_pay.specs.Deal.{AreDealtCards}
 use Rattle.vp_pay.specs.Sections.{table_at, deal_at, hand_at}
 use Rattle.vp_pay.specs.Spelling.{table_text, deal_text}
 use Rattle.vp_pay.specs.Table.{IsTable}
@@ -84,28 +84,28 @@ unfolding ordered
 ordered_err (Ok read) line e = absurd cc
 ordered_err (Err n) line e = ap (λ (k : ℕ). Err k) (err_is {A = PayTable × List ℕ} n line e)
 
-second_exact : (pays : PayTable) → IsTable pays → Exact deal_text (IsDeal pays.deck) (deal_at pays.deck)
+second_exact : (pays : PayTable) → IsTable pays → Exact deal_text (AreDealtCards pays.deck) (deal_at pays.deck)
 second_exact pays table = Exact-deal pays.deck (omega (arith, table.least_deck)) table.greatest_deck
 
 found : (coin : ℕ) (bytes : List ℕ) (pays : PayTable) (cards : List ℕ) → dealt coin bytes ≡ Ok (pays, cards) → SaysDeal coin bytes pays cards
 unfolding dealt
 found coin bytes pays cards e =
-    fitted_found table_text IsTable (has_bet coin) table_at (λ (t : PayTable). deal_text) (λ t. IsDeal t.deck) (λ t. deal_at t.deck) Exact-table second_exact (feed_of bytes) (pays, cards) e
+    fitted_found table_text IsTable (has_bet coin) table_at (λ (t : PayTable). deal_text) (λ t. AreDealtCards t.deck) (λ t. deal_at t.deck) Exact-table second_exact (feed_of bytes) (pays, cards) e
 
 again : (coin : ℕ) (bytes : List ℕ) (pays : PayTable) (cards : List ℕ) → SaysDeal coin bytes pays cards → dealt coin bytes ≡ Ok (pays, cards)
 unfolding dealt
 again coin bytes pays cards says =
-    fitted_again table_text IsTable (has_bet coin) table_at (λ (t : PayTable). deal_text) (λ t. IsDeal t.deck) (λ t. deal_at t.deck) Exact-table second_exact (feed_of bytes) (pays, cards) says
+    fitted_again table_text IsTable (has_bet coin) table_at (λ (t : PayTable). deal_text) (λ t. AreDealtCards t.deck) (λ t. deal_at t.deck) Exact-table second_exact (feed_of bytes) (pays, cards) says
 
 stops : (coin : ℕ) (bytes : List ℕ) (line : ℕ) → dealt coin bytes ≡ Err line → RefusesDeal coin bytes line
 unfolding dealt
 stops coin bytes line e =
-    fitted_stops table_text IsTable (has_bet coin) table_at (λ (t : PayTable). deal_text) (λ t. IsDeal t.deck) (λ t. deal_at t.deck) Exact-table second_exact (feed_of bytes) line e
+    fitted_stops table_text IsTable (has_bet coin) table_at (λ (t : PayTable). deal_text) (λ t. AreDealtCards t.deck) (λ t. deal_at t.deck) Exact-table second_exact (feed_of bytes) line e
 
 refused : (coin : ℕ) (bytes : List ℕ) (line : ℕ) → RefusesDeal coin bytes line → dealt coin bytes ≡ Err line
 unfolding dealt
 refused coin bytes line refuses =
-    fitted_refused table_text IsTable (has_bet coin) table_at (λ (t : PayTable). deal_text) (λ t. IsDeal t.deck) (λ t. deal_at t.deck) Exact-table second_exact (feed_of bytes) line refuses
+    fitted_refused table_text IsTable (has_bet coin) table_at (λ (t : PayTable). deal_text) (λ t. AreDealtCards t.deck) (λ t. deal_at t.deck) Exact-table second_exact (feed_of bytes) line refuses
 
 spelled_again : (coin : ℕ) (bytes : List ℕ) (pays : PayTable) (hand cards : List ℕ) → SaysDeal coin bytes pays cards → hand ≡ in_order cards → deal_input coin bytes ≡ Ok (pays, hand)
 unfolding ordered

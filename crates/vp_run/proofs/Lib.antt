@@ -1,4 +1,3 @@
-pub mod Dealt
 pub mod Ends
 pub mod NoCommand
 pub mod CommandWords
@@ -6,3 +5,4 @@ pub mod DealInputs
 pub mod CertifyInputs
 pub mod CheckInputs
 pub mod EveryDeals
+pub mod GivenWords

@@ -1,14 +1,17 @@
 -- Words that are no command have one answer, whatever the input; and a command has the answer of its own.
 use Rattle.std.specs.Option.{option_map_or}
 use Rattle.std.proofs.Common.{◌≡◌, ◌≤◌, ℕ, Bool, List, [], true, false, ◌≢◌, subst, sym, refl, Option, Some, None, Result, Ok, Err, ap, ◌∙◌}
-use Rattle.std.specs.Prelude.{is_some}
+use Rattle.std.specs.Prelude.{is_some, IfErr, OnOk}
+use Rattle.vp_text.specs.declared.refused.Refused.{Refused as RefusedLine}
 use Rattle.vp_check.specs.Checking.{check_result}
 use Rattle.vp_check.specs.declared.finding.Checked.{Checked}
 use Rattle.vp_check.specs.declared.finding.Finding.{Finding as Fault}
 use Rattle.vp_check.specs.declared.finding.Finding.TheVariants.{Refused as RefusedAt, Bad}
 use Rattle.vp_pay.specs.declared.table.PayTable.{PayTable}
 use Rattle.vp_run.specs.Answer.{Answer, answer, answer_to, certify_answer, certify_input, check_answer, command_answer, deal_answer, deal_input, finding, is_command, needs_input, refusal, tables_answer, usage}
+use Rattle.vp_run.specs.CertifyInput.{SaysTable}
 use Rattle.vp_run.specs.Commands.{command_of, reads}
+use Rattle.vp_run.specs.DealInput.{Says}
 use Rattle.vp_run.specs.declared.command.Command.{Command}
 use Rattle.vp_run.specs.declared.command.Command.TheVariants.{Certify, Check, Deal, Tables}
 use Rattle.vp_io.specs.Puts.{Puts}
@@ -73,30 +76,27 @@ answer_as words command bytes is = ap (λ (c : Option Command). answer_to c byte
 deal_as : (words : List (List ℕ)) (coin : ℕ) (bytes : List ℕ) (input : Result (PayTable × List ℕ) ℕ) → command_of words ≡ Some (Deal coin) → deal_input coin bytes ≡ input → deal_answer coin input ≡ answer words bytes
 deal_as words coin bytes input is says = ap (deal_answer coin) (sym says) ∙ answer_as words (Some (Deal coin)) bytes is
 
-pub deal_done : (words : List (List ℕ)) (coin : ℕ) (bytes : List ℕ) (read : PayTable × List ℕ) → command_of words ≡ Some (Deal coin) → deal_input coin bytes ≡ Ok read → (answer words bytes).status ≡ Done
+deal_done : (words : List (List ℕ)) (coin : ℕ) (bytes : List ℕ) (read : PayTable × List ℕ) → command_of words ≡ Some (Deal coin) → deal_input coin bytes ≡ Ok read → (answer words bytes).status ≡ Done
 deal_done words coin bytes read is says = ap (λ (a : Answer). a.status) (sym (deal_as words coin bytes (Ok read) is says))
 
-refused_as : (words : List (List ℕ)) (coin : ℕ) (bytes : List ℕ) (line : ℕ) → command_of words ≡ Some (Deal coin) → deal_input coin bytes ≡ Err line → refusal line ≡ answer words bytes
-refused_as words coin bytes line is says = deal_as words coin bytes (Err line) is says
-
--- what writes the line of a refused input writes the answer of `deal`
-pub deal_refused : (words : List (List ℕ)) (coin : ℕ) (bytes : List ℕ) (line : ℕ) → command_of words ≡ Some (Deal coin) → deal_input coin bytes ≡ Err line
-    → (before after : Told) (status : Status) → Served (refusal line) before after status → Served (answer words bytes) before after status
-deal_refused words coin bytes line is says before after status ended =
-    subst (λ (due : Answer). Served due before after status) (refused_as words coin bytes line is says) ended
+-- what was read of the input of `deal` tells how its answer ends
+pub deal_read : (words : List (List ℕ)) (coin : ℕ) (bytes : List ℕ) (read : Result (PayTable × List ℕ) RefusedLine) → command_of words ≡ Some (Deal coin) → Says read (deal_input coin bytes)
+    → OnOk read ((answer words bytes).status ≡ Done) × IfErr read (λ e. answer words bytes ≡ refusal e.line)
+deal_read words coin bytes (Ok read) is says = (deal_done words coin bytes read is says, tt)
+deal_read words coin bytes (Err refused) is says = (tt, sym (deal_as words coin bytes (Err refused.line) is says))
 
 -- the answer of `certify` to what its input says
 pub certify_as : (words : List (List ℕ)) (coin : ℕ) (bytes : List ℕ) (input : Result (PayTable × Unit {0}) ℕ) → command_of words ≡ Some (Certify coin) → certify_input coin bytes ≡ input → certify_answer coin input ≡ answer words bytes
 certify_as words coin bytes input is says = ap (certify_answer coin) (sym says) ∙ answer_as words (Some (Certify coin)) bytes is
 
-pub certify_done : (words : List (List ℕ)) (coin : ℕ) (bytes : List ℕ) (read : PayTable × Unit {0}) → command_of words ≡ Some (Certify coin) → certify_input coin bytes ≡ Ok read → (answer words bytes).status ≡ Done
+certify_done : (words : List (List ℕ)) (coin : ℕ) (bytes : List ℕ) (read : PayTable × Unit {0}) → command_of words ≡ Some (Certify coin) → certify_input coin bytes ≡ Ok read → (answer words bytes).status ≡ Done
 certify_done words coin bytes read is says = ap (λ (a : Answer). a.status) (sym (certify_as words coin bytes (Ok read) is says))
 
--- what writes the line of a refused input writes the answer of `certify`
-pub certify_refused : (words : List (List ℕ)) (coin : ℕ) (bytes : List ℕ) (line : ℕ) → command_of words ≡ Some (Certify coin) → certify_input coin bytes ≡ Err line
-    → (before after : Told) (status : Status) → Served (refusal line) before after status → Served (answer words bytes) before after status
-certify_refused words coin bytes line is says before after status ended =
-    subst (λ (due : Answer). Served due before after status) (certify_as words coin bytes (Err line) is says) ended
+-- what was read of the input of `certify` tells how its answer ends
+pub certify_read : (words : List (List ℕ)) (coin : ℕ) (bytes : List ℕ) (read : Result PayTable RefusedLine) → command_of words ≡ Some (Certify coin) → SaysTable read (certify_input coin bytes)
+    → OnOk read ((answer words bytes).status ≡ Done) × IfErr read (λ e. answer words bytes ≡ refusal e.line)
+certify_read words coin bytes (Ok table) is says = (certify_done words coin bytes (table, tt) is says, tt)
+certify_read words coin bytes (Err refused) is says = (tt, sym (certify_as words coin bytes (Err refused.line) is says))
 
 -- what writes the answer of a command writes the answer to its words
 pub served_as : (words : List (List ℕ)) (command : Command) (bytes : List ℕ) (due : Answer) → command_of words ≡ Some command → due ≡ command_answer command bytes

@@ -10,7 +10,7 @@ use Rattle.vp_check.specs.Spelling.{certificate_text}
 use Rattle.vp_check.specs.Truth.{due_certificate}
 use Rattle.vp_check.specs.declared.finding.CertRule.{CertRule}
 use Rattle.vp_check.specs.declared.finding.Checked.{Checked}
-use Rattle.vp_check.specs.declared.finding.Finding.{Finding as Fault}
+use Rattle.vp_check.specs.declared.finding.Finding.{Finding as CheckFinding}
 use Rattle.vp_check.specs.declared.finding.Finding.TheVariants.{Refused as RefusedAt, Bad}
 use Rattle.vp_pay.specs.BuiltIn.{built_in}
 use Rattle.vp_pay.specs.Spelling.{table_text}
@@ -34,7 +34,7 @@ pub record Answer : Type 0 where
 
 -- the answer to words that are no command
 unfoldable pub usage : Answer
-usage = record { status = Usage; text = codes "usage" ++ 10 ∷ [] }
+usage = record { status = Usage; text = line_of (codes "usage" ∷ []) }
 
 -- the answer to an input that is refused at a line
 unfoldable pub refusal : ℕ → Answer
@@ -42,7 +42,7 @@ refusal line = record { status = Refused; text = line_of (codes "refused" ∷ de
 
 -- ---- deal
 
--- the table has a column for the bet
+-- the table has a column for a bet of at least 1
 abbrev pub has_bet : ℕ → PayTable → Bool
 has_bet coin table = nat_le coin table.coins
 
@@ -83,7 +83,7 @@ unfoldable pub finding : ℕ → CertRule → ℕ → ℕ → Answer
 finding line rule said due = record { status = Finding; text = line_of (finding_words line rule said due) }
 
 -- the answer of `check` to what the check of a certificate gives
-abbrev pub check_answer : Result Checked Fault → Answer
+abbrev pub check_answer : Result Checked CheckFinding → Answer
 check_answer (Err (RefusedAt line)) = refusal line
 check_answer (Err (Bad line rule said due)) = finding line rule said due
 check_answer (Ok checked) = record { status = Done; text = written (checked_lines checked) }
@@ -107,6 +107,7 @@ command_answer (Certify coin) bytes = certify_answer coin (certify_input coin by
 command_answer (Check from count) bytes = check_answer (check_result bytes from count)
 command_answer Tables bytes = tables_answer
 
+-- the answer to words, by the command that they are, if they are one
 abbrev pub answer_to : Option Command → List ℕ → Answer
 answer_to None bytes = usage
 answer_to (Some command) bytes = command_answer command bytes

@@ -1,15 +1,14 @@
 -- The words of the commands.
-use Rattle.std.specs.Prelude.{ℕ, ◌-◌, ◌≤◌, Bool, true, false, ◌&&◌, nat_le, List, [], ◌∷◌, Option, Some, None, option_map, bytes_eq, codes, if◌then◌else◌}
+use Rattle.std.specs.Prelude.{ℕ, ◌≤◌, Bool, true, false, List, [], ◌∷◌, Option, Some, None, option_map, bytes_eq, codes, if◌then◌else◌}
 use Rattle.vp_text.specs.Lines.{Word}
 use Rattle.vp_text.specs.Numbers.{number_within}
 use Rattle.vp_text.specs.Pieces.{◌>>=◌}
 use Rattle.vp_run.specs.declared.command.Command.{Command}
 use Rattle.vp_run.specs.declared.command.Command.TheVariants.{Certify, Check, Deal, Tables}
 
--- the bet that a word spells: a digit from 1 to 5
+-- the bet that a word spells: a number from 1 to 5
 unfoldable pub coin_of : Word → Option ℕ
-coin_of (digit ∷ []) = if nat_le 49 digit && nat_le digit 53 then Some (digit - 48) else None
-coin_of _ = None
+coin_of word = number_within 1 5 word
 
 -- the check that two words spell: the place of the first class line that is walked, from 1 to 200000, and how many are, from 0 to 200000
 unfoldable pub check_of : Word → Word → Option Command
@@ -36,7 +35,7 @@ pub record IsRange (from count : ℕ) : Type 0 where
   pub most_from : from ≤ 200000
   pub most_count : count ≤ 200000
 
--- a bet is 1 to 5
+-- the numbers of a command are in range: a bet is 1 to 5
 abbrev pub InRange : Command → Type 0
 InRange (Deal coin) = (1 ≤ coin) × (coin ≤ 5)
 InRange (Certify coin) = (1 ≤ coin) × (coin ≤ 5)

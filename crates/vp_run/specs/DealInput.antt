@@ -4,7 +4,7 @@ use Rattle.vp_card.specs.Cards.{IsHand, in_deck, in_order}
 use Rattle.vp_text.specs.Lines.{feed_of}
 use Rattle.vp_text.specs.Sections.{AcceptedInput, RefusedInput}
 use Rattle.vp_text.specs.declared.refused.Refused.{Refused}
-use Rattle.vp_pay.specs.Deal.{IsDeal}
+use Rattle.vp_pay.specs.Deal.{AreDealtCards}
 use Rattle.vp_pay.specs.Spelling.{table_text, deal_text}
 use Rattle.vp_pay.specs.Table.{IsTable}
 use Rattle.vp_pay.specs.declared.table.PayTable.{PayTable}
@@ -24,11 +24,11 @@ pub record IsDealInput (coin : ℕ) (pays : PayTable) (cards : List ℕ) : Type 
 
 -- the lines of the input are the spelling of a valid pay table that has the bet, and of a deal from its deck, and nothing else
 abbrev pub SaysDeal : ℕ → List ℕ → PayTable → List ℕ → Type 0
-SaysDeal coin bytes pays cards = AcceptedInput table_text IsTable (has_bet coin) (λ (t : PayTable). deal_text) (λ t. IsDeal t.deck) (feed_of bytes) (pays, cards)
+SaysDeal coin bytes pays cards = AcceptedInput table_text IsTable (has_bet coin) (λ (t : PayTable). deal_text) (λ t. AreDealtCards t.deck) (feed_of bytes) (pays, cards)
 
 -- the refused line of the input: the last line of a table without the bet; else the first line with which the lines so far begin no table and deal, or the one past the end
 abbrev pub RefusesDeal : ℕ → List ℕ → ℕ → Type 0
-RefusesDeal coin bytes line = RefusedInput table_text IsTable (has_bet coin) (λ (t : PayTable). deal_text) (λ t. IsDeal t.deck) (feed_of bytes) line
+RefusesDeal coin bytes line = RefusedInput table_text IsTable (has_bet coin) (λ (t : PayTable). deal_text) (λ t. AreDealtCards t.deck) (feed_of bytes) line
 
 -- what `deal` takes for its input is what the input says, with the cards in rising order
 abbrev pub DealInputsAreSpelled : Type 0

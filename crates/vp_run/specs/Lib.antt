@@ -8,4 +8,5 @@ pub mod CertifyInput
 pub mod CheckInput
 pub mod Memory
 pub mod Outcome
+pub mod Arguments
 pub mod EveryDeal

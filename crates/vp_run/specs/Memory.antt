@@ -7,7 +7,7 @@ use Rattle.vp_run.specs.Commands.{command_of}
 use Rattle.vp_run.specs.declared.command.Command.{Command}
 use Rattle.vp_run.specs.declared.command.Command.TheVariants.{Certify, Check, Deal, Tables}
 
--- `deal` needs a table of sums for the deck, and none where its input is refused
+-- `deal` needs a table of sums for the deck of its pay table, and nothing where its input is refused
 abbrev pub deal_words : Result (PayTable × List ℕ) ℕ → ℕ
 deal_words (Ok read) = first_word read.0.deck 6
 deal_words (Err line) = 0
@@ -17,7 +17,7 @@ abbrev pub certify_words : Result (PayTable × Unit {0}) ℕ → ℕ
 certify_words (Ok read) = first_word read.0.deck 6
 certify_words (Err line) = 0
 
--- `check` walks the draws in place
+-- what a command needs: `check` walks the draws in place, and `tables` reads no input
 abbrev pub command_words : Option Command → List ℕ → ℕ
 command_words None bytes = 0
 command_words (Some Tables) bytes = 0

@@ -16,7 +16,7 @@ pub record Told : Type 0 where
 abbrev pub told : {A : Type 0} → (A → Option (List ℕ)) → (A → ℕ) → A → Told
 told bytes faults x = record { bytes = bytes x; faults = faults x }
 
--- no call failed
+-- the count of faults did not rise
 abbrev pub NoFault : Told → Told → Type 0
 NoFault before after = ¬ Rose before.faults after.faults
 

@@ -43,7 +43,8 @@ pub(crate) fn put_certify_answer<K: Sink>(
     requires some { 1 ≤ coin }
     requires limit { length bytes.now ≤ 67108864 }
     requires region { certify_words (certify_input coin bytes.now) ≤ region.old }
-    ensures { Puts (K.taken sink.old) (K.taken sink.new) (K.faults sink.old) (K.faults sink.new) result (certify_answer coin (certify_input coin bytes.now)).text }
+    ensures puts { Puts (K.taken sink.old) (K.taken sink.new) (K.faults sink.old) (K.faults sink.new) result (certify_answer coin (certify_input coin bytes.now)).text }
+    ensures same { region.new ≡ region.old }
 {
     match read_certify_input(bytes, coin) {
         Ok(table) => put_certificate(&table, coin, region, sink),
@@ -61,8 +62,9 @@ fn put_certificate<K: Sink>(
     requires some { 1 ≤ coin }
     requires table { IsCertifyInput coin table.now }
     requires region { first_word table.now.deck 6 ≤ region.old }
-    ensures { Puts (K.taken sink.old) (K.taken sink.new) (K.faults sink.old) (K.faults sink.new) result
+    ensures puts { Puts (K.taken sink.old) (K.taken sink.new) (K.faults sink.old) (K.faults sink.new) result
         (written (certificate_text (due_certificate table.now coin))) }
+    ensures same { region.new ≡ region.old }
 {
     let mut carver = region.carve();
     let words = carver.take(table_words(table.deck)).unwrap();

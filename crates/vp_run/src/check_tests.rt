@@ -1,7 +1,6 @@
 //! `check` of certificates that `certify` wrote, as they are and with one thing changed.
 
-use crate::certify_tests::{ONE, ROOM, written};
-use crate::tests::{JACKS, joined};
+use crate::test_tables::{JACKS, ONE, ROOM, answered, joined};
 use crate::{Status, vpoker};
 use std::test::*;
 use vp_io::{MemSink, PureSource};
@@ -86,14 +85,14 @@ fn first_lines_of_a_certificate(rt: HostRuntime) -> Result<(), Fail> {
         ),
         (b"cert 2\n", "1", Status::Refused, b"refused 15\n"),
     ];
-    let (_, text) = written(rt.alloc(), &["certify", "1"], JACKS, ROOM)?;
+    let (_, text) = answered(rt.alloc(), &["certify", "1"], JACKS, ROOM)?;
     let (first, _, _, _) = cases[0];
     let front = joined(rt.alloc(), JACKS, first)?;
     let rest = text.strip_prefix(front.as_slice()).ok_or("another front")?;
     for (lines, count, due, answer) in cases {
         let changed = joined(rt.alloc(), JACKS, lines)?;
         let input = joined(rt.alloc(), &changed, rest)?;
-        let (status, text) = written(rt.alloc(), &["check", "1", count], &input, 100)?;
+        let (status, text) = answered(rt.alloc(), &["check", "1", count], &input, 100)?;
         assert_eq!(rt; status, due);
         assert_eq!(rt; text.as_slice(), answer);
     }
@@ -155,11 +154,11 @@ fn last_lines_of_a_certificate(rt: HostRuntime) -> Result<(), Fail> {
             b"checked 134459 0\nreturn 19842315923796 / 19933230517200\n",
         ),
     ];
-    let (_, text) = written(rt.alloc(), &["certify", "1"], JACKS, ROOM)?;
+    let (_, text) = answered(rt.alloc(), &["certify", "1"], JACKS, ROOM)?;
     let rest = text.strip_suffix(JACKS_RETURN).ok_or("another return")?;
     for (lines, from, due, answer) in cases {
         let input = joined(rt.alloc(), rest, lines)?;
-        let (status, text) = written(rt.alloc(), &["check", from, "200000"], &input, 100)?;
+        let (status, text) = answered(rt.alloc(), &["check", from, "200000"], &input, 100)?;
         assert_eq!(rt; status, due);
         assert_eq!(rt; text.as_slice(), answer);
     }
@@ -169,7 +168,7 @@ fn last_lines_of_a_certificate(rt: HostRuntime) -> Result<(), Fail> {
 // Holding a deuce is worth four fifths of holding nothing, where only the joker pays.
 #[test]
 fn a_certificate_with_a_joker(rt: HostRuntime) -> Result<(), Fail> {
-    let (_, text) = written(rt.alloc(), &["certify", "1"], ONE, ROOM)?;
+    let (_, text) = answered(rt.alloc(), &["certify", "1"], ONE, ROOM)?;
     let front = joined(
         rt.alloc(),
         ONE,
@@ -191,7 +190,7 @@ fn a_certificate_with_a_joker(rt: HostRuntime) -> Result<(), Fail> {
         ),
     ];
     for (from, due, answer) in cases {
-        let (status, text) = written(rt.alloc(), &["check", from, "1"], &held, 100)?;
+        let (status, text) = answered(rt.alloc(), &["check", from, "1"], &held, 100)?;
         assert_eq!(rt; status, due);
         assert_eq!(rt; text.as_slice(), answer);
     }
@@ -201,7 +200,7 @@ fn a_certificate_with_a_joker(rt: HostRuntime) -> Result<(), Fail> {
         .and_then(|lines| lines.strip_suffix(b"class Ac Ad Ah As Jo 1 16 8561520\n".as_slice()))
         .ok_or("another back")?;
     let short = joined(rt.alloc(), rest, back)?;
-    let (status, text) = written(rt.alloc(), &["check", "1", "0"], &short, 100)?;
+    let (status, text) = answered(rt.alloc(), &["check", "1", "0"], &short, 100)?;
     assert_eq!(rt; status, Status::Finding);
     assert_eq!(rt;
         text.as_slice(),

@@ -35,15 +35,15 @@ pub(crate) fn put_verdict<K: Sink>(
 {
     match verdict {
         Ok(checked) => put_checked(checked, sink),
-        Err(fault) => put_fault(fault, sink),
+        Err(found) => put_found(found, sink),
     }
 }
 
 /// Puts the line of a certificate that is refused, or that breaks a rule.
-fn put_fault<K: Sink>(fault: Finding, sink: &mut K) -> Result<(), WriteFault>
-    ensures { Puts (K.taken sink.old) (K.taken sink.new) (K.faults sink.old) (K.faults sink.new) result (check_answer (Err fault)).text }
+fn put_found<K: Sink>(found: Finding, sink: &mut K) -> Result<(), WriteFault>
+    ensures { Puts (K.taken sink.old) (K.taken sink.new) (K.faults sink.old) (K.faults sink.new) result (check_answer (Err found)).text }
 {
-    match fault {
+    match found {
         Finding::Refused { line } => put_refusal(line, sink),
         Finding::Bad {
             line,

@@ -65,10 +65,8 @@ fn coin_of(word: &[u8]) -> Option<u8>
     ensures is { result ≡ coin_of word.now }
     ensures range { IfSome result (λ coin. (1 ≤ coin) × (coin ≤ 5)) }
 {
-    match word {
-        [digit @ b'1'..=b'5'] => Some(*digit - b'0'),
-        _ => None,
-    }
+    let coin = number_within(1, 5, word)?;
+    Some(coin as u8)
 }
 
 /// The check that two words spell.

@@ -103,7 +103,11 @@ fn put_number<K: Sink>(key: &[u8], number: u32, sink: &mut K) -> Result<(), Writ
 }
 
 /// Puts the four lines of `deal`.
-pub fn put_deal<K: Sink>(hand: &Hand, figures: DealFigures, sink: &mut K) -> Result<(), WriteFault>
+pub(crate) fn put_deal<K: Sink>(
+    hand: &Hand,
+    figures: DealFigures,
+    sink: &mut K,
+) -> Result<(), WriteFault>
     ensures { Puts (K.taken sink.old) (K.taken sink.new) (K.faults sink.old) (K.faults sink.new) result (written (deal_lines hand.now figures)) }
 {
     put_cards(hand, sink)?;
@@ -113,7 +117,7 @@ pub fn put_deal<K: Sink>(hand: &Hand, figures: DealFigures, sink: &mut K) -> Res
 }
 
 /// Puts the line of an input that is refused at a line.
-pub fn put_refusal<K: Sink>(line: u32, sink: &mut K) -> Result<(), WriteFault>
+pub(crate) fn put_refusal<K: Sink>(line: u32, sink: &mut K) -> Result<(), WriteFault>
     ensures { Puts (K.taken sink.old) (K.taken sink.new) (K.faults sink.old) (K.faults sink.new) result (line_of (codes "refused" ∷ decimal line ∷ [])) }
 {
     put_number(b"refused", line, sink)

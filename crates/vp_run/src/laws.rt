@@ -2,7 +2,7 @@
 ghost use Rattle.vp_run.specs.Answer.{UsageIsForNoCommand};
 ghost use Rattle.vp_run.specs.CertifyInput.{CertifyInputsAreSpelled, CertifyInputsAreRefused};
 ghost use Rattle.vp_run.specs.CheckInput.{CertificatesAreJudged, CheckInputsAreEither, CheckInputsAreRefused};
-ghost use Rattle.vp_run.specs.EveryDeal.{CertificatesTellEveryDeal, ChecksTellEveryDeal};
+ghost use Rattle.vp_run.specs.EveryDeal.{CertificatesAreChecked, CertificatesTellEveryDeal, ChecksTellEveryDeal, ChecksTellWalkedDeals};
 ghost use Rattle.vp_run.specs.DealInput.{DealInputsAreSpelled, DealInputsAreRefused};
 ghost use Rattle.vp_run.specs.Outcome.{EachInputIsServed, WordsAreServed};
 
@@ -50,4 +50,12 @@ pub fn check_inputs_are_read()
 pub fn certificates_tell_every_deal()
     ensures certify { CertificatesTellEveryDeal }
     ensures check { ChecksTellEveryDeal }
+    // Where some class lines are walked, the holds that are printed on these lines are told so.
+    ensures walked { ChecksTellWalkedDeals }
+{}
+
+/// What `certify` prints is an input of `check`, which finds no fault with it, whatever class lines are walked.
+#[tactic(auto, using(crate::proofs::EveryDeals::certificates_checked))]
+pub fn certificates_are_checked()
+    ensures { CertificatesAreChecked }
 {}

@@ -64,7 +64,9 @@ pub fn served<K: Sink>(
 ) -> Result<(), WriteFault>
     requires limit { length bytes.now ≤ 67108864 }
     requires region { region_words (map (λ w. w.now) words.now) bytes.now ≤ region.old }
-    ensures { Puts (K.taken sink.old) (K.taken sink.new) (K.faults sink.old) (K.faults sink.new) result (answer (map (λ w. w.now) words.now) bytes.now).text }
+    ensures puts { Puts (K.taken sink.old) (K.taken sink.new) (K.faults sink.old) (K.faults sink.new) result (answer (map (λ w. w.now) words.now) bytes.now).text }
+    // The region is as large as before, so it serves again.
+    ensures same { region.new ≡ region.old }
 {
     match command_of(words) {
         None => put(sink, USAGE),
@@ -85,7 +87,8 @@ fn put_deal_answer<K: Sink>(
     requires some { 1 ≤ coin }
     requires limit { length bytes.now ≤ 67108864 }
     requires region { deal_words (deal_input coin bytes.now) ≤ region.old }
-    ensures { Puts (K.taken sink.old) (K.taken sink.new) (K.faults sink.old) (K.faults sink.new) result (deal_answer coin (deal_input coin bytes.now)).text }
+    ensures puts { Puts (K.taken sink.old) (K.taken sink.new) (K.faults sink.old) (K.faults sink.new) result (deal_answer coin (deal_input coin bytes.now)).text }
+    ensures same { region.new ≡ region.old }
 {
     match read_deal_input(bytes, coin) {
         Ok((table, hand)) => put_figures(&table, coin, &hand, region, sink),
@@ -104,8 +107,9 @@ fn put_figures<K: Sink>(
     requires some { 1 ≤ coin }
     requires dealt { IsDealInput coin table.now hand.now }
     requires region { first_word table.now.deck 6 ≤ region.old }
-    ensures { Puts (K.taken sink.old) (K.taken sink.new) (K.faults sink.old) (K.faults sink.new) result
+    ensures puts { Puts (K.taken sink.old) (K.taken sink.new) (K.faults sink.old) (K.faults sink.new) result
         (written (deal_lines hand.now (deal_figures table.now coin hand.now))) }
+    ensures same { region.new ≡ region.old }
 {
     let mut carver = region.carve();
     let words = carver.take(table_words(table.deck)).unwrap();

@@ -10,15 +10,15 @@ pub enum Status {
     Finding,
     /// The words are no command.
     Usage,
-    /// The input is not in the grammar of the command.
+    /// The input is not in the grammar of the command, or does not fit it.
     Refused,
-    /// A read failed.
+    /// A read failed; nothing was written.
     ReadFault,
-    /// A write failed.
+    /// A write failed; a proper beginning of the text was written.
     WriteFault,
-    /// There was no memory.
+    /// There was no memory; nothing was written.
     NoMemory,
-    /// The input is too long.
+    /// The input has more than 67108864 bytes; nothing was written.
     TooLong,
 }
 

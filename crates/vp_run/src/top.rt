@@ -1,7 +1,6 @@
 // All that the program does, from its words and its input to its text and its status.
-ghost use Rattle.std.specs.Prelude.{◌≡◌, ◌≤◌, [], length, map, true, false, Some};
+ghost use Rattle.std.specs.Prelude.{◌≡◌, ◌≤◌, [], length, map, true, false, Some, IfErr, OnOk};
 ghost use Rattle.vp_run.specs.Answer.{answer, check_answer, needs_input, refusal, tables_answer, usage};
-ghost use Rattle.vp_run.specs.declared.command.Command.TheVariants.{Certify, Deal};
 ghost use Rattle.vp_run.specs.Commands.{command_of};
 ghost use Rattle.vp_run.specs.Outcome.{Outcome, Served, Unread, told};
 
@@ -111,48 +110,31 @@ fn write_answer<K: Sink>(
         (told K.taken K.faults sink.new) result }
 {
     match command {
-        Command::Deal(coin) => write_deal(alloc, words, coin, bytes, sink),
-        Command::Certify(coin) => write_certificate(alloc, words, coin, bytes, sink),
+        Command::Deal(coin) => write_read(alloc, words, bytes, read_deal_input(bytes, coin), sink),
+        Command::Certify(coin) => {
+            write_read(alloc, words, bytes, read_certify_input(bytes, coin), sink)
+        }
         Command::Check { from, count } => write_verdict(check(bytes, from, count), sink),
         Command::Tables => write_tables(sink),
     }
 }
 
-/// Writes the answer of `deal` to its input: the line where it is refused, or the figures.
-fn write_deal<K: Sink>(
+/// Writes the answer to an input that was read: the line where it is refused, or the text that is due.
+fn write_read<T: Drop, K: Sink>(
     alloc: Global,
     words: &[&str],
-    coin: u8,
     bytes: &[u8],
+    read: Result<T, Refused>,
     sink: &mut K,
 ) -> Status
-    requires command { command_of (map (λ w. w.now) words.now) ≡ Some (Deal coin) }
     requires limit { length bytes.now ≤ 67108864 }
+    requires done { OnOk read ((answer (map (λ w. w.now) words.now) bytes.now).status ≡ Status.Done) }
+    requires refused { IfErr read (λ e. answer (map (λ w. w.now) words.now) bytes.now ≡ refusal e.line) }
     ensures { Served (answer (map (λ w. w.now) words.now) bytes.now)
         (told K.taken K.faults sink.old)
         (told K.taken K.faults sink.new) result }
 {
-    match read_deal_input(bytes, coin) {
-        Ok(_) => write_done(alloc, words, bytes, sink),
-        Err(refused) => write_refusal(refused, sink),
-    }
-}
-
-/// Writes the answer of `certify` to its input: the line where it is refused, or the certificate.
-fn write_certificate<K: Sink>(
-    alloc: Global,
-    words: &[&str],
-    coin: u8,
-    bytes: &[u8],
-    sink: &mut K,
-) -> Status
-    requires command { command_of (map (λ w. w.now) words.now) ≡ Some (Certify coin) }
-    requires limit { length bytes.now ≤ 67108864 }
-    ensures { Served (answer (map (λ w. w.now) words.now) bytes.now)
-        (told K.taken K.faults sink.old)
-        (told K.taken K.faults sink.new) result }
-{
-    match read_certify_input(bytes, coin) {
+    match read {
         Ok(_) => write_done(alloc, words, bytes, sink),
         Err(refused) => write_refusal(refused, sink),
     }

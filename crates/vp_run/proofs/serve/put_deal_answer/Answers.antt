@@ -6,7 +6,7 @@ use Rattle.vp_run.specs.Answer.{deal_answer, refusal}
 use Rattle.vp_io.proofs.Puts_laws.{Puts_as}
 use Rattle.vp_run.proofs.serve.put_deal_answer.Goals as goal
 
-pub returns-in-Err : goal.returns-in-Err
+pub returns-in-Err-clause-puts : goal.returns-in-Err-clause-puts
 unfolding refusal
-returns-in-Err g c =
+returns-in-Err-clause-puts g c =
     Puts_as _ _ _ _ _ _ _ (ap (λ (input : Result (PayTable × List ℕ) ℕ). (deal_answer c.args.coin input).text) (sym c.in-Err.ensures.says)) c.put_refusal.ensures

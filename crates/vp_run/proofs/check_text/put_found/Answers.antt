@@ -2,7 +2,7 @@
 use Rattle.std.proofs.Common.{ap, sym, Err}
 use Rattle.vp_run.specs.Answer.{check_answer, finding, refusal}
 use Rattle.vp_io.proofs.Puts_laws.{Puts_as}
-use Rattle.vp_run.proofs.check_text.put_fault.Goals as goal
+use Rattle.vp_run.proofs.check_text.put_found.Goals as goal
 
 pub returns-in-Refused : goal.returns-in-Refused
 unfolding refusal
