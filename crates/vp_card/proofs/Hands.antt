@@ -32,10 +32,20 @@ held_left mask cards done all i even inside so_far =
     in ap (λ rest. done ++ rest) (sym (held_more mask cards i inside ∙ (rw test))) ∙ so_far
 
 -- at the end nothing is left to hold
-pub held_all : (mask : ℕ) (cards done all : List ℕ) (i : ℕ) → length cards ≤ i → done ++ held mask (drop i cards) ≡ all → done ≡ all
-held_all mask cards done all i past so_far =
+pub held_end : (mask : ℕ) (cards done all : List ℕ) (i : ℕ) → length cards ≤ i → done ++ held mask (drop i cards) ≡ all → done ≡ all
+held_end mask cards done all i past so_far =
     let end : drop i cards ≡ [] = drop_all i cards past
     in sym (append-nil done) ∙ (rw end at so_far)
+
+-- the mask 31 holds all five cards
+pub held_all : (hand : List ℕ) → length hand ≡ 5 → held 31 hand ≡ hand
+held_all (a ∷ b ∷ c ∷ d ∷ e ∷ []) five = refl
+held_all [] five = absurd (omega arith)
+held_all (a ∷ []) five = absurd (omega arith)
+held_all (a ∷ b ∷ []) five = absurd (omega arith)
+held_all (a ∷ b ∷ c ∷ []) five = absurd (omega arith)
+held_all (a ∷ b ∷ c ∷ d ∷ []) five = absurd (omega arith)
+held_all (a ∷ b ∷ c ∷ d ∷ e ∷ f ∷ more) five = absurd (omega arith)
 
 flips : (x y : ℕ) → eqb x y ≡ eqb y x
 flips x y = grind (arith, nat_tests)
@@ -57,11 +67,11 @@ rising_of_distinct cards sorted same up apart =
     IsStrictlyIncreasing-from_distinct sorted (IsNonDecreasingBy-from_sort (λ card. card) sorted up) (IsDistinct-IsPermutation eqb flips cards sorted same apart)
 
 -- a rising row of five cards is a hand
-pub hand_of_rising : (cards numbers sorted : List ℕ) → numbers ≡ cards → in_deck 53 cards ≡ true → length sorted ≡ 5 → IsPermutation numbers sorted → IsStrictlyIncreasing sorted
+pub hand_of_rising : (cards numbers sorted : List ℕ) → numbers ≡ cards → in_deck 54 cards ≡ true → length sorted ≡ 5 → IsPermutation numbers sorted → IsStrictlyIncreasing sorted
     → IsPermutation cards sorted × IsHand sorted
 hand_of_rising cards numbers sorted same below five moved rising =
     let from_cards = subst (λ (row : List ℕ). IsPermutation row sorted) same moved
-    in (from_cards, record { five = five; rising = rising; below = in_deck-IsPermutation 53 cards sorted from_cards below })
+    in (from_cards, record { five = five; rising = rising; below = in_deck-IsPermutation 54 cards sorted from_cards below })
 
 failed : (test : Bool) {A : Type 0} (x y : A) → (test ≡ true → ⊥) → y ≡ cond test x y
 failed true x y never = absurd (never refl)

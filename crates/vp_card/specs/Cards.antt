@@ -1,8 +1,12 @@
 -- What cards, sets of ranks, hands and masks mean, over numbers.
-use Rattle.std.specs.Prelude.{◌≡◌, ℕ, ◌/◌, ◌%◌, Bool, true, cond, if◌then◌else◌, not, ◌&&◌, ◌==◌, nat_lt, List, [], ◌∷◌, length}
+use Rattle.std.specs.Prelude.{◌≡◌, ℕ, ◌≤◌, ◌/◌, ◌%◌, Bool, true, cond, if◌then◌else◌, not, ◌&&◌, ◌==◌, nat_lt, List, [], ◌∷◌, length}
 use Rattle.std.specs.List.{list_all}
 use Rattle.std.specs.List.Sorted.{IsStrictlyIncreasing}
 use Rattle.std.specs.Int.{bit_at}
+
+-- the number of cards of a deck: the 52 natural cards, and none, one or two jokers
+abbrev pub IsDeck : ℕ → Type 0
+IsDeck n = (52 ≤ n) × (n ≤ 54)
 
 -- the rank of a card, from 0 for a two to 12 for an ace; a joker has rank 13
 abbrev pub rank : ℕ → ℕ
@@ -28,7 +32,7 @@ in_deck n cards = list_all (λ card. nat_lt card n) cards
 pub record IsHand (cards : List ℕ) : Type 0 where
   pub five : length cards ≡ 5
   pub rising : IsStrictlyIncreasing cards
-  pub below : in_deck 53 cards ≡ true
+  pub below : in_deck 54 cards ≡ true
 
 -- the cards at the places whose bit is set in the mask, the first place having the lowest bit
 abbrev pub held : ℕ → List ℕ → List ℕ

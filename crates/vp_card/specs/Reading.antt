@@ -1,7 +1,7 @@
 -- How the texts of cards and of sets of ranks are read from left to right.
 use Rattle.std.specs.Prelude.{ℕ, Bool, false, ◌+◌, ◌*◌, ◌==◌, List, [], ◌∷◌, Option, Some, None, option_map, bytes_eq, if◌then◌else◌}
 use Rattle.std.specs.List.{position}
-use Rattle.vp_card.specs.Texts.{rank_letters, suit_letters, joker_text, any_text}
+use Rattle.vp_card.specs.Texts.{rank_letters, suit_letters, joker_text, second_joker_text, any_text}
 
 -- the rank with this letter
 unfoldable pub rank_of : ℕ → Option ℕ
@@ -23,7 +23,7 @@ natural_of _ = None
 
 -- the card with this text
 unfoldable pub card_of : List ℕ → Option ℕ
-card_of text = if bytes_eq text joker_text then Some 52 else natural_of text
+card_of text = if bytes_eq text joker_text then Some 52 else (if bytes_eq text second_joker_text then Some 53 else natural_of text)
 
 -- the bits of the letters that the text has, in their order and no others
 abbrev pub bits_of : List ℕ → List ℕ → Option ℕ

@@ -10,13 +10,17 @@ rank_letters = codes "23456789TJQKA"
 unfoldable pub suit_letters : List ℕ
 suit_letters = codes "cdhs"
 
--- the joker's text
+-- the first joker's text
 unfoldable pub joker_text : List ℕ
 joker_text = codes "Jo"
 
--- the text of a card: its rank's letter and its suit's, or the joker's text
+-- the second joker's text
+unfoldable pub second_joker_text : List ℕ
+second_joker_text = codes "Jk"
+
+-- the text of a card: its rank's letter and its suit's, or the text of one of the jokers, 52 and 53
 unfoldable pub card_text : ℕ → List ℕ
-card_text card = if nat_lt card 52 then slice_index rank_letters (rank card) ∷ slice_index suit_letters (suit card) ∷ [] else joker_text
+card_text card = if nat_lt card 52 then slice_index rank_letters (rank card) ∷ slice_index suit_letters (suit card) ∷ [] else (if card == 52 then joker_text else second_joker_text)
 
 -- the text of the set of all ranks
 unfoldable pub any_text : List ℕ

@@ -1,35 +1,137 @@
-//! Texts of cards and of sets of ranks as a player writes them, and a hand.
+//! Texts of cards and of sets of ranks as a player writes them, hands, and the decks.
 
-use crate::{Card, Hand, RankSet, in_deck};
-use std::test::*;
+use crate::{
+    Card, Hand, RankSet, card_texts_differ, in_deck, is_deck, rank_letter, rank_of,
+    rank_set_texts_differ,
+};
+use std::test::Fail;
+
+/// Cards by their texts.
+const TEXTS: [(&[u8], u8); 9] = [
+    (b"2c", 0),
+    (b"2d", 1),
+    (b"2h", 2),
+    (b"2s", 3),
+    (b"3c", 4),
+    (b"Tc", 32),
+    (b"As", 51),
+    (b"Jo", 52),
+    (b"Jk", 53),
+];
 
 #[test]
-fn texts(rt: HostRuntime) {
-    assert!(rt; Card::read(b"2c") == Card::new(0));
-    assert!(rt; Card::read(b"As") == Card::new(51));
-    assert!(rt; Card::read(b"Jo") == Card::new(52));
-    assert!(rt; Card::read(b"10s").is_none());
-    assert!(rt; RankSet::read(b"any").is_some());
-    assert!(rt; RankSet::read(b"JQKA").is_some());
-    assert!(rt; RankSet::read(b"AK").is_none());
-    assert!(rt; RankSet::read(b"23456789TJQKA").is_none());
+fn cards_and_their_texts(rt: HostRuntime) {
+    for (text, number) in TEXTS {
+        let card = Card::read(text);
+        assert!(rt; card == Card::new(number), "card {number}");
+        assert!(rt;
+            card.is_some_and(|card| card.text().as_slice() == text),
+            "card {number}"
+        );
+    }
+    for text in [
+        b"10s".as_slice(),
+        b"",
+        b"J",
+        b"jo",
+        b"JO",
+        b"Jo ",
+        b"sA",
+        b"1c",
+        b"Ac2d",
+        b"AS",
+    ] {
+        assert!(rt; Card::read(text).is_none(), "{text:?}");
+    }
+    assert!(rt; Card::new(54).is_none());
+    assert!(rt; rank_of(b'T') == Some(8) && rank_letter(8) == b'T');
+    card_texts_differ();
 }
 
 #[test]
-fn hand_in_order(rt: HostRuntime) -> Result<(), Fail> {
-    let ace = Card::read(b"As").ok_or("a card")?;
-    let four = Card::read(b"4s").ok_or("a card")?;
-    let ten = Card::read(b"Ts").ok_or("a card")?;
-    let queen = Card::read(b"Qs").ok_or("a card")?;
-    let king = Card::read(b"Ks").ok_or("a card")?;
-    let hand = Hand::of([ace, king, four, ten, queen]).ok_or("five different cards")?;
-    assert_eq!(rt; hand.numbers(), [11, 35, 43, 47, 51]);
-    assert_eq!(rt; hand.held(6).len(), 2);
-    assert!(rt; hand.is_of_deck(52));
-    assert!(rt; !hand.is_of_deck(51));
-    let joker = Card::read(b"Jo").ok_or("a card")?;
-    assert!(rt; in_deck(&[ace, joker], 53));
-    assert!(rt; !in_deck(&[ace, joker], 52));
-    assert!(rt; Hand::of([ace, king, four, ace, queen]).is_none());
+fn sets_of_ranks_and_their_texts(rt: HostRuntime) {
+    let texts: [(&[u8], u8, u8); 4] = [
+        (b"any", 0, 13),
+        (b"A", 12, 0),
+        (b"JQKA", 9, 8),
+        (b"23456789TJQK", 11, 12),
+    ];
+    for (text, has, lacks) in texts {
+        match RankSet::read(text) {
+            None => assert!(rt; false, "{text:?} is not read"),
+            Some(set) => {
+                assert!(rt; set.text().as_slice() == text, "{text:?}");
+                assert!(rt; set.has(has) && !set.has(lacks), "{text:?}");
+            }
+        }
+    }
+    for text in [
+        b"".as_slice(),
+        b"AK",
+        b"AA",
+        b"23456789TJQKA",
+        b"anyA",
+        b"Any",
+        b"AB",
+    ] {
+        assert!(rt; RankSet::read(text).is_none(), "{text:?}");
+    }
+    rank_set_texts_differ();
+}
+
+/// The cards with these texts.
+fn cards_of(texts: [&[u8]; 5]) -> Option<[Card; 5]> {
+    let [a, b, c, d, e] = texts;
+    Some([
+        Card::read(a)?,
+        Card::read(b)?,
+        Card::read(c)?,
+        Card::read(d)?,
+        Card::read(e)?,
+    ])
+}
+
+#[test]
+fn hands_and_decks(rt: HostRuntime) -> Result<(), Fail> {
+    let hands: [([&[u8]; 5], [u8; 5]); 3] = [
+        ([b"4s", b"Ts", b"Qs", b"Ks", b"As"], [11, 35, 43, 47, 51]),
+        ([b"As", b"Ks", b"4s", b"Ts", b"Qs"], [11, 35, 43, 47, 51]),
+        ([b"Jk", b"2c", b"Jo", b"As", b"2d"], [0, 1, 51, 52, 53]),
+    ];
+    for (texts, numbers) in hands {
+        let hand = cards_of(texts)
+            .and_then(Hand::of)
+            .ok_or("five different cards")?;
+        assert_eq!(rt; hand.numbers(), numbers);
+        let [first, second, .., last] = numbers;
+        assert!(rt; hand.held(0).is_empty() && hand.held(31).len() == 5);
+        let two: Option<[u8; 2]> = match hand.held(17).as_slice() {
+            [a, b] => Some([a.number(), b.number()]),
+            _ => None,
+        };
+        assert_eq!(rt; two, Some([first, last]), "not {second}");
+        assert!(rt; hand.is_of_deck(last + 1) && !hand.is_of_deck(last));
+    }
+    let twice: [[&[u8]; 5]; 3] = [
+        [b"2c", b"3c", b"4c", b"5c", b"5c"],
+        [b"As", b"Ks", b"4s", b"As", b"Qs"],
+        [b"Jo", b"Ks", b"4s", b"As", b"Jo"],
+    ];
+    for texts in twice {
+        let cards = cards_of(texts).ok_or("five cards")?;
+        assert!(rt; Hand::of(cards).is_none());
+    }
+    let jokers = cards_of([b"2c", b"3c", b"As", b"Jo", b"Jk"]).ok_or("five cards")?;
+    for (deck, is_one, both) in [
+        (0, false, false),
+        (51, false, false),
+        (52, true, false),
+        (53, true, false),
+        (54, true, true),
+        (55, false, true),
+    ] {
+        assert!(rt; is_deck(deck) == is_one, "a deck of {deck}");
+        assert!(rt; in_deck(&jokers, deck) == both, "a deck of {deck}");
+    }
     Ok(())
 }

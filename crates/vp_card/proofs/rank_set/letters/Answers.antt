@@ -1,5 +1,5 @@
 use Rattle.std.proofs.Common.{◌<◌, ◌≤◌, arith, ap, length, length-append}
-use Rattle.vp_card.proofs.Hands.{held_taken, held_left, held_all}
+use Rattle.vp_card.proofs.Hands.{held_taken, held_left, held_end}
 use Rattle.vp_card.proofs.RankSets.{letters_are}
 use Rattle.vp_card.proofs.rank_set.letters.Goals as goal
 use Rattle.vp_card.proofs.rank_set.letters.Goals.{then-bits-eq1, else-bits-eq1}
@@ -23,4 +23,4 @@ pub returns : goal.returns
 returns c =
     let past : length c.rank_letters-letter-items.result.now ≤ c.loop-letter.letter-index =
     omega (arith, letters_are, ap length c.rank_letters-letter-items.ensures)
-    in held_all _ _ _ _ _ past c.loop-letter.invariant.so_far
+    in held_end _ _ _ _ _ past c.loop-letter.invariant.so_far
