@@ -6,6 +6,7 @@ use Rattle.std.proofs.lemmas.Bool.Decides.{nat_tests}
 use Rattle.std.proofs.lemmas.List.Elements.{All-get_or, All-from_get_or}
 use Rattle.std.proofs.lemmas.List.Sums.{AllPass-from_list_all, list_all-from_AllPass}
 use Rattle.std.proofs.lemmas.Nat.{div-add-mod'}
+use Rattle.vp_card.specs.Cards.{IsDeck}
 use Rattle.vp_sets.specs.Sets.{choose}
 use Rattle.vp_sets.specs.Draws.{draw_counts, first_passing, least_common_multiple, common, scale}
 use Rattle.vp_sets.proofs.Pascal.{draw_counts_are, draw_count_at}
@@ -60,7 +61,7 @@ divided m n k pass few =
     let here : (m % get_or (draw_counts n) k 0 == 0) ≡ true = All-get_or (λ x. (m % x == 0) ≡ true) (draw_counts n) k 0 (omega (arith, draw_counts_many n)) (AllPass-from_list_all (λ x. m % x == 0) (draw_counts n) pass) in
     eqb-true _ _ (rw (draw_count_at n k few) at here)
 
--- ---- the two decks
+-- ---- the three decks
 
 draw_counts-52 : draw_counts 52 ≡ 1 ∷ 47 ∷ 1081 ∷ 16215 ∷ 178365 ∷ 1533939 ∷ []
 draw_counts-52 = draw_counts_are 52 (lit≤ tt)
@@ -68,11 +69,17 @@ draw_counts-52 = draw_counts_are 52 (lit≤ tt)
 draw_counts-53 : draw_counts 53 ≡ 1 ∷ 48 ∷ 1128 ∷ 17296 ∷ 194580 ∷ 1712304 ∷ []
 draw_counts-53 = draw_counts_are 53 (lit≤ tt)
 
+draw_counts-54 : draw_counts 54 ≡ 1 ∷ 49 ∷ 1176 ∷ 18424 ∷ 211876 ∷ 1906884 ∷ []
+draw_counts-54 = draw_counts_are 54 (lit≤ tt)
+
 least-52 : (m : ℕ) → 0 < m → m % 178365 ≡ 0 → m % 1533939 ≡ 0 → 7669695 ≤ m
 least-52 m p a b = omega arith
 
 least-53 : (m : ℕ) → 0 < m → m % 194580 ≡ 0 → m % 1712304 ≡ 0 → 8561520 ≤ m
 least-53 m p a b = omega arith
+
+least-54 : (m : ℕ) → 0 < m → m % 18424 ≡ 0 → m % 1906884 ≡ 0 → 3813768 ≤ m
+least-54 m p a b = omega arith
 
 pub common-52 : common 52 ≡ 7669695
 unfolding common least_common_multiple
@@ -82,12 +89,23 @@ pub common-53 : common 53 ≡ 8561520
 unfolding common least_common_multiple
 common-53 = rw draw_counts-53 (first_passing_is _ 1 _ 8561520 (lit≤ tt) (lit< tt) refl (λ x l h. grind (arith, nat_tests, least-53 x l)))
 
-common_passes : (n : ℕ) → (n ≡ 52) ⊎ (n ≡ 53) → list_all (λ x. common n % x == 0) (draw_counts n) ≡ true
-common_passes n (inl e) = rw (e, common-52, draw_counts-52) refl
-common_passes n (inr e) = rw (e, common-53, draw_counts-53) refl
+pub common-54 : common 54 ≡ 3813768
+unfolding common least_common_multiple
+common-54 = rw draw_counts-54 (first_passing_is _ 1 _ 3813768 (lit≤ tt) (lit< tt) refl (λ x l h. grind (arith, nat_tests, least-54 x l)))
+
+-- the three decks
+pub which_deck : (n : ℕ) → IsDeck n → (n ≡ 52) ⊎ ((n ≡ 53) ⊎ (n ≡ 54))
+which_deck n h = let low = h.0 in let high = h.1 in grind arith
+
+common_passes : (n : ℕ) → IsDeck n → list_all (λ x. common n % x == 0) (draw_counts n) ≡ true
+common_passes n h = elim (which_deck n h) [
+  | inl e ↦ rw (e, common-52, draw_counts-52) refl
+  | inr (inl e) ↦ rw (e, common-53, draw_counts-53) refl
+  | inr (inr e) ↦ rw (e, common-54, draw_counts-54) refl
+]
 
 -- every number of draws divides the common denominator
-pub common_divided : (n k : ℕ) → (n ≡ 52) ⊎ (n ≡ 53) → k ≤ 5 → common n % choose (n - 5) k ≡ 0
+pub common_divided : (n k : ℕ) → IsDeck n → k ≤ 5 → common n % choose (n - 5) k ≡ 0
 common_divided n k e h = divided (common n) n k (common_passes n e) h
 
 -- no smaller number is divided by them all
@@ -96,21 +114,17 @@ unfolding common least_common_multiple
 common_least n m p h = first_passing_least (λ x. list_all (λ y. x % y == 0) (draw_counts n)) 1 (fold ◌*◌ 1 (draw_counts n)) m (omega arith) (passing m n h)
 
 -- the scale times the number of draws is the common denominator
-pub scale_exact : (n k : ℕ) → (n ≡ 52) ⊎ (n ≡ 53) → k ≤ 5 → scale n k * choose (n - 5) k ≡ common n
+pub scale_exact : (n k : ℕ) → IsDeck n → k ≤ 5 → scale n k * choose (n - 5) k ≡ common n
 unfolding scale
 scale_exact n k e h = omega (arith, common_divided n k e h, div-add-mod' (common n) (choose (n - 5) k))
 
 -- no common denominator is large
-pub common_small : (n : ℕ) → (n ≡ 52) ⊎ (n ≡ 53) → common n ≤ 8561520
-common_small n (inl e) = rw (e, common-52) (lit≤ tt)
-common_small n (inr e) = rw (e, common-53) (lit≤ tt)
-
--- the constants of the code
-pub constant-52 : (n : ℕ) → n ≡ 52 → 7669695 ≡ common n
-constant-52 n e = rw e (sym common-52)
-
-pub constant-53 : (n : ℕ) → n ≡ 53 → 8561520 ≡ common n
-constant-53 n e = rw e (sym common-53)
+pub common_small : (n : ℕ) → IsDeck n → common n ≤ 8561520
+common_small n h = elim (which_deck n h) [
+  | inl e ↦ rw (e, common-52) (lit≤ tt)
+  | inr (inl e) ↦ rw (e, common-53) (lit≤ tt)
+  | inr (inr e) ↦ rw (e, common-54) (lit≤ tt)
+]
 
 pub scale_is : (n k : ℕ) → common n / choose (n - 5) k ≡ scale n k
 unfolding scale

@@ -20,9 +20,9 @@ five_in_row (a ∷ b ∷ c ∷ d ∷ e ∷ f ∷ g) h = absurd (omega arith)
 pub row_of : (cards : List ℕ) (a b c d e : ℕ) → length cards ≡ 5 → a ≡ get_or cards 0 0 → b ≡ get_or cards 1 0 → c ≡ get_or cards 2 0 → d ≡ get_or cards 3 0 → e ≡ get_or cards 4 0 → a ∷ b ∷ c ∷ d ∷ e ∷ [] ≡ cards
 row_of cards a b c d e l p q r s t = rw (p, q, r, s, t) (sym (five_in_row cards l))
 
-pub different_cards : (cards row : List ℕ) → IsSet 53 cards → row ≡ cards → IsDistinct eqb row
-different_cards cards row h e = rw e (distinct_from cards (λ x. times-rising x cards (set_rises 53 cards h)))
+pub different_cards : (cards row : List ℕ) → IsSet 54 cards → row ≡ cards → IsDistinct eqb row
+different_cards cards row h e = rw e (distinct_from cards (λ x. times-rising x cards (set_rises 54 cards h)))
 
-pub hand_of_set : (cards row hand : List ℕ) → IsSet 53 cards → row ≡ cards → IsPermutation row hand → IsHand hand → hand ≡ cards
+pub hand_of_set : (cards row hand : List ℕ) → IsSet 54 cards → row ≡ cards → IsPermutation row hand → IsHand hand → hand ≡ cards
 hand_of_set cards row hand h e same made =
-    rising_same hand cards (rising_from hand made.rising) (set_rises 53 cards h) (λ x. times-IsPermutation x row hand same ∙ ap (λ (s : List ℕ). times x s) e)
+    rising_same hand cards (rising_from hand made.rising) (set_rises 54 cards h) (λ x. times-IsPermutation x row hand same ∙ ap (λ (s : List ℕ). times x s) e)

@@ -55,7 +55,7 @@ pub ways_are : (n k : ℕ) → n ≤ 54 → k ≤ 5 → get_or (get_or WAYS n []
 ways_are n k l m = ap (λ r. get_or r k 0) (row_is n l) ∙ column n k m
 
 -- the numbers of draws stand in the row of the cards that were not dealt
-pub draw_counts_are : (n : ℕ) → n ≤ 53 → draw_counts n ≡ get_or WAYS (n - 5) []
+pub draw_counts_are : (n : ℕ) → n ≤ 54 → draw_counts n ≡ get_or WAYS (n - 5) []
 unfolding draw_counts row
 draw_counts_are n l = sym (row_is (n - 5) (omega arith))
 

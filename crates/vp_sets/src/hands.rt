@@ -8,7 +8,7 @@ use vp_card::{Card, Hand};
 /// The hand of these five cards, which rise.
 pub fn hand_of(cards: &[u8; 5]) -> Hand
     requires five { length cards.now ≡ 5 }
-    requires set { IsSet 53 cards.now }
+    requires set { IsSet 54 cards.now }
     ensures { result ≡ cards.now }
 {
     Hand::of(cards_of(cards)).unwrap()
@@ -17,7 +17,7 @@ pub fn hand_of(cards: &[u8; 5]) -> Hand
 /// The cards with these numbers.
 fn cards_of(cards: &[u8; 5]) -> [Card; 5]
     requires five { length cards.now ≡ 5 }
-    requires set { IsSet 53 cards.now }
+    requires set { IsSet 54 cards.now }
     ensures { result ≡ cards.now }
 {
     let [a, b, c, d, e] = *cards;
@@ -25,7 +25,7 @@ fn cards_of(cards: &[u8; 5]) -> [Card; 5]
 }
 
 fn card(number: u8) -> Card
-    requires { number < 53 }
+    requires { number < 54 }
     ensures { result ≡ number }
 {
     Card::new(number).unwrap()

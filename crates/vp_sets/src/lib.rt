@@ -2,6 +2,7 @@
 #![tactic(auto)]
 
 ghost use Rattle.std.specs.Prelude.{ℕ, ◌≡◌, ◌⊎◌, ◌-◌, ◌*◌, ◌%◌, ◌<◌, ◌≤◌};
+ghost use Rattle.vp_card.specs.Cards.{IsDeck};
 ghost use Rattle.vp_sets.specs.Draws.{common, scale};
 ghost use Rattle.vp_sets.specs.Sets.{choose};
 
@@ -13,7 +14,7 @@ pub use hands::hand_of;
 pub use index::{index_laws, index_of, next_set, set_at};
 use ways::WAYS;
 
-/// In how many ways `k` of `n` things are chosen.
+/// In how many ways `k` of `n` things are chosen: from a table of Pascal's rule.
 pub fn choose(n: u8, k: u8) -> u64
     requires things { n ≤ 54 }
     requires members { k ≤ 5 }
@@ -25,7 +26,7 @@ pub fn choose(n: u8, k: u8) -> u64
 /// The common denominator of all expected payments from a deck of `n` cards: the least common multiple
 /// of the numbers of draws of no card to five cards out of the `n - 5` that were not dealt.
 pub fn common(n: u8) -> u64
-    requires { (n ≡ 52) ⊎ (n ≡ 53) }
+    requires { IsDeck n }
     ensures value { result ≡ common n }
     ensures some { 0 < result }
     // The number of draws of any hold divides it.
@@ -33,16 +34,26 @@ pub fn common(n: u8) -> u64
     // No smaller number is divided by them all.
     ensures least { (m : ℕ) → 0 < m → ((k : ℕ) → k ≤ 5 → m % choose (n - 5) k ≡ 0) → result ≤ m }
 {
+    denominator(n)
+}
+
+/// The common denominator, by the number of jokers.
+fn denominator(n: u8) -> u64
+    requires { IsDeck n }
+    ensures value { result ≡ common n }
+    ensures some { 0 < result }
+{
     match n {
         52 => 7669695,
-        _ => 8561520,
+        53 => 8561520,
+        _ => 3813768,
     }
 }
 
 /// By what the sum of payments over all draws of `k` cards is multiplied, to stand over the common
 /// denominator.
 pub fn scale(n: u8, k: u8) -> u64
-    requires deck { (n ≡ 52) ⊎ (n ≡ 53) }
+    requires deck { IsDeck n }
     requires drawn { k ≤ 5 }
     ensures value { result ≡ scale n k }
     // The quotient is exact.
@@ -52,34 +63,4 @@ pub fn scale(n: u8, k: u8) -> u64
 }
 
 #[cfg(test)]
-mod tests {
-    use super::*;
-
-    #[test]
-    fn numbers_of_the_decks(rt: HostRuntime) {
-        assert_eq!(rt; choose(52, 5), 2598960);
-        assert_eq!(rt; choose(53, 5), 2869685);
-        assert_eq!(rt; common(52), 7669695);
-        assert_eq!(rt; common(53), 8561520);
-        for (drawn, factor) in [
-            (0, 7669695),
-            (1, 163185),
-            (2, 7095),
-            (3, 473),
-            (4, 43),
-            (5, 5),
-        ] {
-            assert_eq!(rt; scale(52, drawn), factor);
-        }
-    }
-
-    #[test]
-    fn first_and_last_sets(rt: HostRuntime) {
-        assert_eq!(rt; index_of(&[0, 1, 2, 4, 5]), 2);
-        assert_eq!(rt; choose(52, 5), 2598960);
-        let mut set = [0; 5];
-        set_at(52, 5, 2598959, &mut set);
-        assert_eq!(rt; set, [47, 48, 49, 50, 51]);
-        assert!(rt; !next_set(52, &mut set));
-    }
-}
+mod tests;
