@@ -1,7 +1,7 @@
 -- A section and then one that depends on its value: exact where both are. And a value that is seen otherwise.
 use Rattle.std.proofs.Common.{◌≡◌, ℕ, List, [], ◌∷◌, ◌++◌, Result, Ok, Err, ◌⊎◌, inl, inr, refl, sym, ap, subst, ◌∙◌, append_assoc}
 use Rattle.std.proofs.lemmas.List.{append-nil}
-use Rattle.vp_text.specs.Lines.{Word, WordLine, Feed}
+use Rattle.vp_text.specs.Lines.{Past, Word, WordLine, Feed}
 use Rattle.vp_text.specs.Sections.{Text, text_of, last_of, Starts, Begins, Lacks, Refuses, both_text, AreBoth}
 use Rattle.vp_text.specs.ExactReaders.{Reader, Exact, Seen}
 use Rattle.vp_text.specs.Reading.{◌>>=◌, both, mapped}
@@ -176,7 +176,7 @@ Exact-both {A = A} {B = B} spell Valid first spell2 Valid2 second exact1 exact2 
     stops_second feed between a refused valid s (inr n) =
         let text : text_of feed.lines ≡ text_of s.front ++ text_of between.lines = ap text_of s.lines ∙ text_of-append s.front between.lines in
         inr (record {
-          number = n.number ∙ s.past;
+          number = n.number ∙ ap (λ (p : Past). p.line) s.past;
           wanted = subst (λ (t : Text). Lacks (both_text spell spell2) (AreBoth Valid Valid2) t) (sym text) (lacks_second spell Valid spell2 Valid2 a (text_of s.front) (text_of between.lines) valid s.spelled n.wanted);
         })
 

@@ -1,6 +1,6 @@
 -- Numbers are read from their decimal digits, and from nothing else.
 use Rattle.std.proofs.Common.{◌≡◌, ℕ, zero, suc, ◌+◌, ◌^◌, ◌<◌, ◌≤◌, true, nat_le, nat_lt, ◌&&◌, List, [], ◌∷◌, map, refl, ap, sym, ◌∙◌, arith, Some, None}
-use Rattle.std.specs.Prelude.{Option, bytes_eq}
+use Rattle.std.specs.Prelude.{Option, IfSome, IfNone, bytes_eq}
 use Rattle.std.specs.Char.{digit_value}
 use Rattle.std.specs.Fmt.{decimal}
 use Rattle.std.specs.Int.Digits.{number_from_digits, digits_of, AllBelowBase}
@@ -64,6 +64,16 @@ unread text (Some n) is never = let t = number_takes text n is in absurd (never 
 -- a text that is no number's digits
 pub number_none : (text : Word) → ((n : ℕ) → n < 2 ^ 64 → text ≡ decimal n → ⊥) → number_of text ≡ None
 number_none text never = unread text (number_of text) refl never
+
+-- what was read is the number that the text says
+pub number_found : (text : Word) (o : Option ℕ) → o ≡ number_of text → IfSome o (λ n. text ≡ decimal n)
+number_found text None is = tt
+number_found text (Some n) is = sym (number_takes text n (sym is)).1
+
+-- where nothing was read the text says no number
+pub number_missing : (text : Word) (o : Option ℕ) → o ≡ number_of text → IfNone o ((n : ℕ) → n < 2 ^ 64 → text ≡ decimal n → ⊥)
+number_missing text (Some n) is = tt
+number_missing text None is = λ n below same. no_value n (is ∙ number_some text n same below)
 
 -- ---- numbers between bounds
 

@@ -1,6 +1,6 @@
 -- Pieces of lines: words, and one piece behind another.
 use Rattle.std.proofs.Common.{◌≡◌, ℕ, zero, suc, map, length, arith, Bool, true, false, cond, ◌&&◌, List, [], ◌∷◌, ◌++◌, refl, ap, sym, ◌∙◌, Some, None, subst}
-use Rattle.std.specs.Prelude.{Option, option_map, bytes_eq}
+use Rattle.std.specs.Prelude.{◌↔◌, Option, option_map, bytes_eq}
 use Rattle.std.proofs.lemmas.Slice.Eq.{bytes_eq-Decides}
 use Rattle.vp_text.specs.ExactReaders.{ExactText}
 use Rattle.vp_text.specs.Lines.{Word}
@@ -140,3 +140,17 @@ Exact-keyed {A = A} key {word = word} {Valid = Valid} {read = read} exact = reco
       in let k = took (Exact-key_word key) words first.value first.first
       in let v = took (Exact-one_word exact) first.value.1 second.value second.first
       in rw (← end.1) (v.valid, sym (k.front ∙ ap (λ (ws : List Word). key ∷ ws) (v.front ∙ ap (λ (ws : List Word). word second.value.0 ∷ ws) end.0)))
+
+-- ---- what is taken from the front
+
+-- a value's word is taken exactly where it stands in front
+pub one_word_taken : {A : Type 0} {word : A → Word} {Valid : A → Type 0} {read : Word → Option A} → ExactText word Valid read
+    → (value : A) (words left : List Word) → one_word read words ≡ Some (value, left) ↔ (Valid value × (words ≡ word value ∷ left))
+one_word_taken {read = read} exact value words left =
+    let piece = Exact-one_word exact in
+    (λ e. piece.takes words left value e, λ h. ap (one_word read) h.1 ∙ piece.again left value h.0 refl)
+
+pub key_word_taken : (key : Word) (words left : List Word) → key_word key words ≡ Some (tt, left) ↔ (words ≡ key ∷ left)
+key_word_taken key words left =
+    let piece = Exact-key_word key in
+    (λ e. (piece.takes words left tt e).1, λ h. ap (key_word key) h ∙ piece.again left tt tt refl)

@@ -2,7 +2,7 @@
 use Rattle.std.proofs.Common.{◌≡◌, ℕ, Bool, true, false, cond, List, [], ◌∷◌, ◌++◌, map, Option, Some, None, option_map, Result, Ok, Err, ◌⊎◌, inl, inr, refl, sym, ap, subst, ◌∙◌, append_assoc}
 use Rattle.std.proofs.lemmas.List.{append-nil, map-append}
 use Rattle.std.proofs.lemmas.Slice.Eq.{bytes_eq-Decides}
-use Rattle.vp_text.specs.Lines.{Word, WordLine, Feed}
+use Rattle.vp_text.specs.Lines.{Past, Word, WordLine, Feed}
 use Rattle.vp_text.specs.Reading.{behind, only_is, by_row, rows_at, rows, closed_by, closed}
 use Rattle.vp_text.specs.Sections.{Text, text_of, last_of, Starts, Begins, Lacks, Refuses}
 use Rattle.vp_text.specs.ExactReaders.{Exact, Keeps, on_item, Finish, rows_text, AreRows, item_or, allows_or, closed_text, AreClosed, Closes, ExactText}
@@ -39,7 +39,7 @@ pub record Taken {I Z : Type 0} (line : I ⊎ Z → List Word) (Rule : List I �
   pub starts : Starts (rows_text line) before (more, value.1) left
 
 rows_take : {I Z : Type 0} (line : I ⊎ Z → List Word) (Rule : List I → I ⊎ Z → Type 0) (row_of : List I → List Word → Option (I ⊎ Z)) → Grammar line Rule row_of
-    → (lines : List WordLine) (past last : ℕ) (items : List I) (value : List I × Z) (left : Feed) → rows_at row_of lines past items ≡ Ok (value, left)
+    → (lines : List WordLine) (past : Past) (last : ℕ) (items : List I) (value : List I × Z) (left : Feed) → rows_at row_of lines past items ≡ Ok (value, left)
     → Taken line Rule (record { lines = lines; past = past; last = last }) items value left
 rows_take line Rule row_of grammar [] past last items value left e = absurd cc
 rows_take {I = I} {Z = Z} line Rule row_of grammar (l ∷ lines) past last items value left e =
@@ -88,7 +88,7 @@ rows_take {I = I} {Z = Z} line Rule row_of grammar (l ∷ lines) past last items
 -- ---- what keeps its rules is read
 
 rows_again : {I Z : Type 0} (line : I ⊎ Z → List Word) (Rule : List I → I ⊎ Z → Type 0) (row_of : List I → List Word → Option (I ⊎ Z)) → Grammar line Rule row_of
-    → (more items : List I) (z : Z) (lines front : List WordLine) (past last : ℕ) (left : Feed) → Keeps (on_item Rule) items more → Rule (items ++ more) (inr z)
+    → (more items : List I) (z : Z) (lines front : List WordLine) (past : Past) (last : ℕ) (left : Feed) → Keeps (on_item Rule) items more → Rule (items ++ more) (inr z)
     → lines ≡ front ++ left.lines → text_of front ≡ rows_text line (more, z) → left.past ≡ past → left.last ≡ last_of front last
     → rows_at row_of lines past items ≡ Ok ((items ++ more, z), left)
 rows_again line Rule row_of grammar [] items z lines [] past last left keeps closes split spelled p q = absurd cc
@@ -135,17 +135,17 @@ pub record Stopped {I Z : Type 0} (line : I ⊎ Z → List Word) (Rule : List I 
   pub unread : row_of (items ++ more) at.words ≡ None
 
 -- these items keep their rules, and no line is behind them
-pub record Ran {I Z : Type 0} (line : I ⊎ Z → List Word) (Rule : List I → I ⊎ Z → Type 0) (lines : List WordLine) (past : ℕ) (items : List I) (refused : ℕ) : Type 0 where
+pub record Ran {I Z : Type 0} (line : I ⊎ Z → List Word) (Rule : List I → I ⊎ Z → Type 0) (lines : List WordLine) (past : Past) (items : List I) (refused : ℕ) : Type 0 where
   pub more : List I
   pub keeps : Keeps (on_item Rule) items more
   pub spelled : text_of lines ≡ items_text line more
-  pub number : refused ≡ past
+  pub number : refused ≡ past.line
 
 rows_stop : {I Z : Type 0} (line : I ⊎ Z → List Word) (Rule : List I → I ⊎ Z → Type 0) (row_of : List I → List Word → Option (I ⊎ Z)) → Grammar line Rule row_of
-    → (lines : List WordLine) (past : ℕ) (items : List I) (refused : ℕ) → rows_at row_of lines past items ≡ Err refused
+    → (lines : List WordLine) (past : Past) (items : List I) (refused : ℕ) → rows_at row_of lines past items ≡ Err refused
     → Stopped line Rule row_of lines items refused ⊎ Ran line Rule lines past items refused
 rows_stop {I = I} {Z = Z} line Rule row_of grammar [] past items refused e =
-    inr (record { more = []; keeps = tt; spelled = refl; number = sym (err_is {A = (List I × Z) × Feed} past refused e) })
+    inr (record { more = []; keeps = tt; spelled = refl; number = sym (err_is {A = (List I × Z) × Feed} past.line refused e) })
 rows_stop {I = I} {Z = Z} line Rule row_of grammar (l ∷ lines) past items refused e =
     row_stops (λ i h. rows_stop line Rule row_of grammar lines past (items ++ i ∷ []) refused h) (row_of items l.words) refl e
   where
@@ -292,7 +292,7 @@ Exact-rows {I = I} {Z = Z} line Rule row_of exact finish = record {
 
 -- ---- items that a word alone closes
 
-only_word : (word : Word) (words : List Word) → only_is word words ≡ true → word ∷ [] ≡ words
+pub only_word : (word : Word) (words : List Word) → only_is word words ≡ true → word ∷ [] ≡ words
 only_word word [] e = absurd cc
 only_word word (next ∷ []) e = cons_is word next [] [] (sym ((bytes_eq-Decides next word).0 e)) refl
 only_word word (next ∷ second ∷ more) e = absurd cc

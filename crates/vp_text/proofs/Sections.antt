@@ -1,7 +1,7 @@
 -- Exact readers: what follows for spellings, and the parts from which readers are put together are exact.
 use Rattle.std.proofs.Common.{◌≡◌, ℕ, List, [], ◌∷◌, ◌++◌, Option, Some, None, Result, Ok, Err, inl, inr, refl, sym, ap, subst, ◌∙◌}
 use Rattle.std.proofs.lemmas.List.{append-nil}
-use Rattle.vp_text.specs.Lines.{Word, WordLine, Feed}
+use Rattle.vp_text.specs.Lines.{Past, Word, WordLine, Feed}
 use Rattle.vp_text.specs.Reading.{behind, line_or, line_at, one_line, nothing}
 use Rattle.vp_text.specs.Sections.{Text, text_of, last_of, Starts, Begins, Lacks, Refuses}
 use Rattle.vp_text.specs.ExactReaders.{Reader, Exact, ExactText}
@@ -55,7 +55,7 @@ begins_lacks lacks = record { value = lacks.value; valid = lacks.valid; more = l
 -- ---- one line
 
 line_takes : {A : Type 0} (line : A → List Word) (Valid : A → Type 0) (value_of : List Word → Option A) → ExactText line Valid value_of
-    → (lines : List WordLine) (past last : ℕ) (left : Feed) (value : A) → line_at value_of lines past ≡ Ok (value, left)
+    → (lines : List WordLine) (past : Past) (last : ℕ) (left : Feed) (value : A) → line_at value_of lines past ≡ Ok (value, left)
     → Valid value × Starts (λ a. line a ∷ []) (record { lines = lines; past = past; last = last }) value left
 line_takes line Valid value_of exact [] past last left value e = absurd cc
 line_takes {A = A} line Valid value_of exact (l ∷ lines) past last left value e =
@@ -70,9 +70,9 @@ line_takes {A = A} line Valid value_of exact (l ∷ lines) past last left value 
         subst (λ (p : A × Feed). Valid p.0 × Starts (λ a. line a ∷ []) (record { lines = l ∷ lines; past = past; last = last }) p.0 p.1) found
         (t.0, record { front = l ∷ []; lines = refl; spelled = cons_is l.words (line a) [] [] (sym t.1) refl; past = refl; last = refl })
 
-pub feed_is : (left : Feed) (past last : ℕ) → left.past ≡ past → left.last ≡ last → record { lines = left.lines; past = past; last = last } ≡ left
+pub feed_is : (left : Feed) (past : Past) (last : ℕ) → left.past ≡ past → left.last ≡ last → record { lines = left.lines; past = past; last = last } ≡ left
 feed_is left past last p q =
-    let one : record { lines = left.lines; past = past; last = last } ≡ record { lines = left.lines; past = left.past; last = last } = ap (λ (k : ℕ). record { lines = left.lines; past = k; last = last }) (sym p) in
+    let one : record { lines = left.lines; past = past; last = last } ≡ record { lines = left.lines; past = left.past; last = last } = ap (λ (k : Past). record { lines = left.lines; past = k; last = last }) (sym p) in
     one ∙ ap (λ (k : ℕ). record { lines = left.lines; past = left.past; last = k }) (sym q)
 
 ok_as : {A : Type 0} (value : A) (f g : Feed) → f ≡ g → ok_pair value f ≡ ok_pair value g
@@ -91,10 +91,10 @@ line_again line Valid value_of exact before left value (l ∷ m ∷ front) valid
     let clash = tail_is l.words (line value) (m.words ∷ text_of front) [] spelled in absurd cc
 
 line_stops : {A : Type 0} (line : A → List Word) (Valid : A → Type 0) (value_of : List Word → Option A) → ExactText line Valid value_of
-    → (some : A) → Valid some → (lines : List WordLine) (past last : ℕ) (refused : ℕ) → line_at value_of lines past ≡ Err refused
+    → (some : A) → Valid some → (lines : List WordLine) (past : Past) (last : ℕ) (refused : ℕ) → line_at value_of lines past ≡ Err refused
     → Refuses (λ a. line a ∷ []) Valid (record { lines = lines; past = past; last = last }) refused
 line_stops {A = A} line Valid value_of exact some valid [] past last refused e =
-    inr (record { number = sym (err_is {A = A × Feed} past refused e); wanted = record { value = some; valid = valid; next = line some; more = []; spelled = refl } })
+    inr (record { number = sym (err_is {A = A × Feed} past.line refused e); wanted = record { value = some; valid = valid; next = line some; more = []; spelled = refl } })
 line_stops {A = A} line Valid value_of exact some valid (l ∷ lines) past last refused e = refused_line (value_of l.words) refl e
   where
     unread : value_of l.words ≡ None → Begins (λ a. line a ∷ []) Valid (l.words ∷ []) → ⊥

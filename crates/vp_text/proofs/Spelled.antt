@@ -100,4 +100,4 @@ last_of-lines_for [] = refl
 last_of-lines_for (w ∷ text) = last_of-lines_for text
 
 abbrev pub feed_for : Text → Feed
-feed_for text = record { lines = lines_for text; past = 0; last = 0 }
+feed_for text = record { lines = lines_for text; past = record { line = 0; bytes = [] }; last = 0 }

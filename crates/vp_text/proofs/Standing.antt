@@ -1,7 +1,7 @@
 -- Where a reader stands: what one line more, and one reader after the other, leave.
 use Rattle.std.proofs.Common.{◌≡◌, List, [], ◌∷◌, ◌++◌, Result, Ok, Err, IfErr, refl, sym, ap, subst, ◌∙◌}
 use Rattle.std.proofs.lemmas.List.{append_assoc}
-use Rattle.vp_text.specs.Lines.{WordLine, Feed}
+use Rattle.vp_text.specs.Lines.{WordLine, Feed, at_end}
 use Rattle.vp_text.specs.Sections.{last_of, Leaves, IsAt, StandsBehind}
 use Rattle.vp_text.specs.declared.refused.Refused.{Refused}
 use Rattle.vp_text.proofs.Spelled.{last_of-append}
@@ -9,12 +9,12 @@ use Rattle.vp_text.proofs.Spelled.{last_of-append}
 -- ---- which lines were read
 
 -- none
-pub leaves_all : (before left : Feed) → left ≡ before → Leaves before left
+pub leaves_all : (before left : Feed) → left ≡ at_end before → Leaves before left
 leaves_all before left e =
     subst (λ (f : Feed). Leaves before f) (sym e) (record { front = []; lines = refl; past = refl; last = refl })
 
 -- one
-pub leaves_line : (before left : Feed) (line : WordLine) → before.lines ≡ line ∷ left.lines → left.last ≡ line.line → left.past ≡ before.past → Leaves before left
+pub leaves_line : (before left : Feed) (line : WordLine) → before.lines ≡ line ∷ left.lines → left.last ≡ line.line → left.past.line ≡ before.past.line → Leaves before left
 leaves_line before left line lines last past = record { front = line ∷ []; lines = lines; past = past; last = last }
 
 -- some, and then some more
@@ -27,7 +27,7 @@ leaves_then before mid left one two = record {
 }
 
 -- some, and then one more
-pub leaves_next : (before mid left : Feed) (line : WordLine) → Leaves before mid → mid.lines ≡ line ∷ left.lines → left.last ≡ line.line → left.past ≡ mid.past → Leaves before left
+pub leaves_next : (before mid left : Feed) (line : WordLine) → Leaves before mid → mid.lines ≡ line ∷ left.lines → left.last ≡ line.line → left.past.line ≡ mid.past.line → Leaves before left
 leaves_next before mid left line read lines last past = leaves_then before mid left read (leaves_line mid left line lines last past)
 
 -- ---- where a refused line leaves the reader

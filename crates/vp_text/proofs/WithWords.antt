@@ -1,6 +1,6 @@
 -- Words that are put into a line one by one, and lines that are put one by one.
 use Rattle.std.proofs.Common.{◌≡◌, ℕ, false, ◌+◌, ◌<◌, List, [], ◌∷◌, ◌++◌, map, length, take, drop, get_or, refl, ap, sym, ◌∙◌, arith, add-one, append_assoc, length-append}
-use Rattle.std.proofs.lemmas.List.{map-append, append-nil, take-append-drop}
+use Rattle.std.proofs.lemmas.List.{drop_more, map-append, append-nil, take-append-drop}
 use Rattle.std.proofs.lemmas.Grind.{flat_map-append}
 use Rattle.std.proofs.lemmas.Bool.Decides.{nat_tests}
 use Rattle.std.proofs.Math.Seq.{take-suc}
@@ -49,12 +49,9 @@ lines_next words items i item inside is =
     in let all : map words (take (i + 1) items) ≡ map words (take i items) ++ words item ∷ [] = ap (map words) taken ∙ map-append words (take i items) (item ∷ [])
     in rw all (flat_map-append line_of (map words (take i items)) (words item ∷ []) ∙ ap (λ (l : List ℕ). written (map words (take i items)) ++ l) (append-nil (line_of (words item))))
 
--- the lines of the items so far, the line of one more, and the lines of the rest
-pub lines_split : {A : Type 0} (words : A → List Word) (items : List A) (i : ℕ) (item : A) → i < length items → item ≡ get_or items i item
-    → written (map words items) ≡ written (map words (take i items)) ++ (line_of (words item) ++ written (map words (drop (i + 1) items)))
-lines_split words items i item inside is =
-    ap (λ ls. written (map words ls)) (sym (take-append-drop (i + 1) items))
-    ∙ ap written (map-append words (take (i + 1) items) (drop (i + 1) items))
-    ∙ flat_map-append line_of (map words (take (i + 1) items)) (map words (drop (i + 1) items))
-    ∙ ap (λ (front : List ℕ). front ++ written (map words (drop (i + 1) items))) (lines_next words items i item inside is)
-    ∙ append_assoc (written (map words (take i items))) (line_of (words item)) (written (map words (drop (i + 1) items)))
+-- the lines of the items from one on are its line, and the lines of the rest
+pub lines_left : {A : Type 0} (words : A → List Word) (items : List A) (i : ℕ) (item : A) → i < length items → item ≡ get_or items i item
+    → written (map words (drop i items)) ≡ line_of (words item) ++ written (map words (drop (i + 1) items))
+lines_left words items i item inside is =
+    ap (λ ls. written (map words ls)) (drop_more items i item inside)
+    ∙ ap (λ x. line_of (words x) ++ written (map words (drop (i + 1) items))) (sym is)

@@ -8,7 +8,7 @@ use Rattle.std.proofs.lemmas.List.Sums.{position_or_len_is}
 use Rattle.std.proofs.lemmas.List.Concat.{flat_map-cons}
 use Rattle.std.proofs.lemmas.List.Splits.{slice_split_at, slice_split_none}
 use Rattle.vp_text.specs.Lines.{Word, WordLine, Feed, is_blank, is_empty, words_in, said, lines_in, lines_between, numbered, feed_of}
-use Rattle.vp_text.specs.Sections.{Text, text_of, last_of}
+use Rattle.vp_text.specs.Sections.{Text, text_of, last_of, Starts}
 use Rattle.vp_text.specs.ExactReaders.{Reader, Exact}
 use Rattle.vp_text.specs.Written.{with_word, spaced, line_of, written, is_plain, IsPlainWord, IsPlainText}
 use Rattle.vp_text.proofs.Spelled.{parts}
@@ -96,11 +96,12 @@ words_in_spaced (word ∷ next ∷ more) h =
 
 -- ---- lines
 
-line_cut : (line more : List ℕ) → AllByRecursion Clean line → lines_in (line ++ 10 ∷ more) ≡ line ∷ lines_in more
+-- a line without a line feed, in front of more
+pub line_cut : (line more : List ℕ) → AllByRecursion (λ byte. eqb byte 10 ≡ false) line → lines_in (line ++ 10 ∷ more) ≡ line ∷ lines_in more
 line_cut line more h =
     let p : ℕ → Bool = λ byte. eqb byte 10 in
     let s = split_some p more in
-    let cut : slice_split p (line ++ 10 ∷ more) ≡ line ∷ slice_split p more = slice_split_at p line 10 more (All-from_recursion (λ byte. eqb byte 10 ≡ false) line (no_feeds line h)) refl in
+    let cut : slice_split p (line ++ 10 ∷ more) ≡ line ∷ slice_split p more = slice_split_at p line 10 more (All-from_recursion (λ byte. eqb byte 10 ≡ false) line h) refl in
     ap lines_between (cut ∙ ap (λ (ps : List (List ℕ)). line ∷ ps) s.2) ∙ ap (λ (ps : List (List ℕ)). line ∷ lines_between ps) (sym s.2)
 
 choose_alike : (b : Bool) (x y : List WordLine) (v w : WordLine) → v.words ≡ w.words → text_of x ≡ text_of y → text_of (cond b x (v ∷ x)) ≡ text_of (cond b y (w ∷ y))
@@ -108,7 +109,7 @@ choose_alike true x y v w words e = e
 choose_alike false x y v w words e = ap (λ (t : Text). v.words ∷ t) e ∙ ap (λ (ws : List Word). ws ∷ text_of y) words
 
 -- the words don't depend on the number of the first line
-numbered_alike : (m n : ℕ) (lines : List (List ℕ)) → text_of (numbered m lines) ≡ text_of (numbered n lines)
+pub numbered_alike : (m n : ℕ) (lines : List (List ℕ)) → text_of (numbered m lines) ≡ text_of (numbered n lines)
 numbered_alike m n [] = refl
 numbered_alike m n (line ∷ lines) =
     choose_alike (eqb (length (words_in (said line))) 0) (numbered (m + 1) lines) (numbered (n + 1) lines)
@@ -131,7 +132,7 @@ written_read (words ∷ text) more h =
     let clean = clean_spaced words h.0.1 in
     let says : words_in (said (spaced words)) ≡ words = ap words_in (said_clean (spaced words) clean) ∙ words_in_spaced words h.0.1 in
     ap (λ (bs : List ℕ). text_of (numbered 1 (lines_in bs))) regroup
-    ∙ ap (λ (ls : List (List ℕ)). text_of (numbered 1 ls)) (line_cut (spaced words) rest clean)
+    ∙ ap (λ (ls : List (List ℕ)). text_of (numbered 1 ls)) (line_cut (spaced words) rest (no_feeds (spaced words) clean))
     ∙ numbered_line 1 (spaced words) (lines_in rest) words says h.0.0
     ∙ ap (λ (t : Text). words ∷ t) (written_read text more h.1)
 
@@ -154,12 +155,19 @@ with_word_spaced (first ∷ more) word h =
 
 -- ---- values
 
+-- A value whose spelling is written in plain words stands at the front, and what follows is left.
+pub written_stands : {A : Type 0} (spell : A → Text) (value : A) (more : List ℕ) → IsPlainText (spell value)
+    → (left : Feed) × Starts spell (feed_of (written (spell value) ++ more)) value left × (text_of left.lines ≡ text_of (feed_of more).lines)
+written_stands spell value more plain =
+    let feed : Feed = feed_of (written (spell value) ++ more) in
+    let p = parts feed.lines (spell value) (text_of (feed_of more).lines) (written_read (spell value) more plain) in
+    let left : Feed = record { lines = p.back; past = feed.past; last = last_of p.front feed.last } in
+    (left, record { front = p.front; lines = p.both; spelled = p.first; past = refl; last = refl }, p.second)
+
 -- A valid value whose spelling is written in plain words is read again, and what follows is left.
 pub written_again : {A : Type 0} (spell : A → Text) (Valid : A → Type 0) (read : Reader A) → Exact spell Valid read
     → (value : A) (more : List ℕ) → Valid value → IsPlainText (spell value)
     → (left : Feed) × (read (feed_of (written (spell value) ++ more)) ≡ Ok (value, left)) × (text_of left.lines ≡ text_of (feed_of more).lines)
 written_again spell Valid read exact value more valid plain =
-    let feed : Feed = feed_of (written (spell value) ++ more) in
-    let p = parts feed.lines (spell value) (text_of (feed_of more).lines) (written_read (spell value) more plain) in
-    let left : Feed = record { lines = p.back; past = feed.past; last = last_of p.front feed.last } in
-    (left, exact.again feed left value valid (record { front = p.front; lines = p.both; spelled = p.first; past = refl; last = refl }), p.second)
+    let s = written_stands spell value more plain in
+    (s.0, exact.again (feed_of (written (spell value) ++ more)) s.0 value valid s.1, s.2)

@@ -5,3 +5,4 @@ pub mod Pieces
 pub mod Numbers
 pub mod Written
 pub mod ExactReaders
+pub mod Streams

@@ -1,5 +1,5 @@
 -- The lines of a text that have words, each with its number.
-use Rattle.std.specs.Prelude.{ℕ, ◌+◌, Bool, ◌||◌, not, ◌==◌, List, [], ◌∷◌, length, filter, if◌then◌else◌}
+use Rattle.std.specs.Prelude.{◌≡◌, ◌≤◌, ℕ, zero, suc, ◌+◌, Bool, ◌||◌, not, ◌==◌, List, [], ◌∷◌, length, filter, if◌then◌else◌}
 use Rattle.std.specs.List.{slice_split, before_first}
 use Rattle.std.specs.Str.Lines.{strip_carriage_return}
 
@@ -12,10 +12,15 @@ pub record WordLine : Type 0 where
   pub line : ℕ
   pub words : List Word
 
--- a text that is read line by line: the lines that are left, one more than the number of all lines, and the number of the line that was given last (0 before the first)
+-- the input: one more than the number of its lines, and its bytes, until it was found that no line is left
+pub record Past : Type 0 where
+  pub line : ℕ
+  pub bytes : List ℕ
+
+-- a text that is read line by line: the lines that are left, the input, and the number of the line that was given last (0 before the first)
 pub record Feed : Type 0 where
   pub lines : List WordLine
-  pub past : ℕ
+  pub past : Past
   pub last : ℕ
 
 -- a space or a tab
@@ -50,4 +55,28 @@ numbered line (text ∷ more) =
 
 -- a text before its first line is read
 abbrev pub feed_of : List ℕ → Feed
-feed_of bytes = record { lines = numbered 1 (lines_in bytes); past = length (lines_in bytes) + 1; last = 0 }
+feed_of bytes = record { lines = numbered 1 (lines_in bytes); past = record { line = length (lines_in bytes) + 1; bytes = bytes }; last = 0 }
+
+-- what stands behind the first line feed
+abbrev pub after_feed : List ℕ → List ℕ
+after_feed [] = []
+after_feed (byte ∷ bytes) = if byte == 10 then bytes else after_feed bytes
+
+-- what stands behind the line feed of the line with this number; all bytes for 0
+unfoldable pub behind_line : ℕ → List ℕ → List ℕ
+behind_line zero bytes = bytes
+behind_line (suc line) bytes = behind_line line (after_feed bytes)
+
+-- the bytes behind the line that was given last; none where it was found that no line is left
+abbrev pub rest_of : Feed → List ℕ
+rest_of feed = behind_line feed.last feed.past.bytes
+
+-- it was found that no line is left
+abbrev pub at_end : Feed → Feed
+at_end feed = record { lines = feed.lines; past = record { line = feed.past.line; bytes = [] }; last = feed.last }
+
+-- a reader behind so many lines of the text, of which this was given last: the rest of the text, or none of it where no line was left
+pub record IsReading (count last : ℕ) (bytes rest : List ℕ) : Type 0 where
+  pub bound : count + length rest ≤ 67108864
+  pub behind_last : behind_line last bytes ≡ rest
+  pub behind : behind_line count bytes ≡ rest

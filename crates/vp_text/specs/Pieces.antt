@@ -1,5 +1,5 @@
 -- Words that are read from the front of a line, piece by piece.
-use Rattle.std.specs.Prelude.{◌≡◌, ℕ, zero, suc, length, Bool, true, List, [], ◌∷◌, ◌++◌, Option, Some, None, option_map, bytes_eq, if◌then◌else◌}
+use Rattle.std.specs.Prelude.{◌≡◌, ◌≤◌, ℕ, zero, suc, ◌-◌, nat_lt, length, Bool, true, false, List, [], ◌∷◌, ◌++◌, Option, Some, None, option_map, bytes_eq, if◌then◌else◌}
 use Rattle.std.specs.List.{AllByRecursion}
 use Rattle.vp_text.specs.Lines.{Word}
 
@@ -40,10 +40,14 @@ abbrev pub key_word : Word → Piece (Unit {0})
 key_word key [] = None
 key_word key (word ∷ rest) = if bytes_eq word key then Some (tt, rest) else None
 
+-- no word is left
+abbrev pub none_left : List Word → Bool
+none_left [] = true
+none_left (word ∷ rest) = false
+
 -- a value, and no word behind it
 abbrev pub ended : {A : Type 0} → A → List Word → Option A
-ended value [] = Some value
-ended value (word ∷ rest) = None
+ended value words = if none_left words then Some value else None
 
 -- a line of two words: this word, and a value's
 abbrev pub keyed : {A : Type 0} → Word → (Word → Option A) → List Word → Option A
@@ -51,6 +55,39 @@ keyed key read words = do
   first ← key_word key words
   value ← one_word read first.1
   ended value.0 value.1
+
+-- ---- at most so many values
+
+-- values of one word each, behind these, up to this word: at most so many in all
+abbrev pub up_to : {A : Type 0} → (Word → Option A) → ℕ → Word → List A → Piece (List A)
+up_to read most key values [] = None
+up_to read most key values (word ∷ rest) =
+    if bytes_eq word key then Some (values, rest) else (if nat_lt (length values) most then (do
+      value ← read word
+      up_to read most key (values ++ value ∷ []) rest) else None)
+
+-- a value that is told by its first word, and read from the words behind it
+abbrev pub by_first : {A : Type 0} → (Word → Piece A) → Piece A
+by_first behind [] = None
+by_first behind (word ∷ rest) = behind word rest
+
+-- at most so many values up to the end of the line, each told by its first word
+abbrev pub up_to_end : {A : Type 0} → ℕ → (Word → Piece A) → List Word → Option (List A)
+up_to_end n behind [] = Some []
+up_to_end zero behind (word ∷ rest) = None
+up_to_end (suc n) behind (word ∷ rest) = do
+  value ← behind word rest
+  more ← up_to_end n behind value.1
+  Some (value.0 ∷ more)
+
+-- the same, behind values that were read
+abbrev pub ahead : {A : Type 0} → ℕ → (Word → Piece A) → List A → List Word → Option (List A)
+ahead most behind front words = option_map (λ more. front ++ more) (up_to_end (most - length front) behind words)
+
+-- at most so many valid values
+pub record AreUpTo {A : Type 0} (Valid : A → Type 0) (most : ℕ) (values : List A) : Type 0 where
+  pub count : length values ≤ most
+  pub all : AllByRecursion Valid values
 
 -- what a function of the program returned is what reading gives: the value (seen so) and the words that are left
 abbrev pub Takes : {X Y : Type 0} → (X → Y) → Option X → List Word → Option (Y × List Word) → Type 0

@@ -8,12 +8,12 @@
 -- Exact-closed, Exact-mapped), and so the whole section is: see Exact.
 use Rattle.std.specs.Prelude.{◌≡◌, ℕ, Bool, List, [], ◌∷◌, ◌++◌, Option, Some, None, option_map, Result, Ok, Err, ◌⊎◌, if◌then◌else◌, false, bytes_eq}
 use Rattle.std.proofs.Common.{inl, inr}
-use Rattle.vp_text.specs.Lines.{Word, WordLine, Feed}
+use Rattle.vp_text.specs.Lines.{Word, WordLine, Feed, Past}
 use Rattle.vp_text.specs.ExactReaders.{Reader}
 use Rattle.vp_text.specs.declared.refused.Refused.{Refused}
 
 -- the lines behind this one
-abbrev pub behind : WordLine → List WordLine → ℕ → Feed
+abbrev pub behind : WordLine → List WordLine → Past → Feed
 behind line lines past = record { lines = lines; past = past; last = line.line }
 
 -- the next word is this one
@@ -39,8 +39,8 @@ abbrev pub line_or : {A : Type 0} → Option A → ℕ → Feed → Result (A ×
 line_or None refused left = Err refused
 line_or (Some value) refused left = Ok (value, left)
 
-abbrev pub line_at : {A : Type 0} → (List Word → Option A) → List WordLine → ℕ → Result (A × Feed) ℕ
-line_at value_of [] past = Err past
+abbrev pub line_at : {A : Type 0} → (List Word → Option A) → List WordLine → Past → Result (A × Feed) ℕ
+line_at value_of [] past = Err past.line
 line_at value_of (line ∷ more) past = line_or (value_of line.words) line.line (behind line more past)
 
 -- a section of one line
@@ -70,8 +70,8 @@ by_row (Some (inl i)) refused item close = item i
 by_row (Some (inr z)) refused item close = close z
 
 -- the lines from here, behind these items
-abbrev pub rows_at : {I Z : Type 0} → (List I → List Word → Option (I ⊎ Z)) → List WordLine → ℕ → List I → Result ((List I × Z) × Feed) ℕ
-rows_at row_of [] past items = Err past
+abbrev pub rows_at : {I Z : Type 0} → (List I → List Word → Option (I ⊎ Z)) → List WordLine → Past → List I → Result ((List I × Z) × Feed) ℕ
+rows_at row_of [] past items = Err past.line
 rows_at row_of (line ∷ more) past items =
     by_row (row_of items line.words) (Err line.line) (λ i. rows_at row_of more past (items ++ i ∷ [])) (λ z. Ok ((items, z), behind line more past))
 

@@ -49,7 +49,7 @@ pub record Breaks {A : Type 0} (spell : A → Text) (Valid : A → Type 0) (feed
 
 -- the input ends where more lines were wanted: refused is the line past its end
 pub record Ends {A : Type 0} (spell : A → Text) (Valid : A → Type 0) (feed : Feed) (refused : ℕ) : Type 0 where
-  pub number : refused ≡ feed.past
+  pub number : refused ≡ feed.past.line
   pub wanted : Lacks spell Valid (text_of feed.lines)
 
 -- the line that a section is refused at
@@ -62,12 +62,12 @@ Refuses spell Valid feed refused = Breaks spell Valid feed refused ⊎ Ends spel
 pub record Leaves (before left : Feed) : Type 0 where
   pub front : List WordLine
   pub lines : before.lines ≡ front ++ left.lines
-  pub past : left.past ≡ before.past
+  pub past : left.past.line ≡ before.past.line
   pub last : left.last ≡ last_of front before.last
 
 -- the refused line was given last, or it is the one past the end and no line is left
 abbrev pub IsAt : ℕ → Feed → Type 0
-IsAt refused left = (refused ≡ left.last) ⊎ ((refused ≡ left.past) × (left.lines ≡ []))
+IsAt refused left = (refused ≡ left.last) ⊎ ((refused ≡ left.past.line) × (left.lines ≡ []))
 
 -- A reader that refused a line stands behind that line, or at the end of the text where the input ended too early.
 pub record StandsBehind (before : Feed) (refused : ℕ) (left : Feed) : Type 0 where
@@ -100,7 +100,7 @@ pub record FirstBreak {A : Type 0} (spell : A → Text) (Valid : A → Type 0) (
 
 -- all lines begin a spelling, they are none, and this is one more than the number of lines of the input
 pub record TooShort {A : Type 0} (spell : A → Text) (Valid : A → Type 0) (feed : Feed) (refused : ℕ) : Type 0 where
-  pub number : refused ≡ feed.past
+  pub number : refused ≡ feed.past.line
   pub begun : Begins spell Valid (text_of feed.lines)
   pub none : (value : A) → Valid value → IsWhole spell feed value → ⊥
 

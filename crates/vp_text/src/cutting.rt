@@ -3,7 +3,9 @@
 ghost use Rattle.std.specs.Prelude.{◌≡◌, ◌<◌, ◌==◌, Bool, false, not, List, ◌∷◌, length, slice_index, position};
 ghost use Rattle.std.specs.List.{before_first};
 ghost use Rattle.std.specs.Str.Lines.{strip_carriage_return};
-ghost use Rattle.vp_text.specs.Lines.{is_blank, lines_in, words_in, said};
+ghost use Rattle.vp_text.specs.Lines.{is_blank, after_feed, lines_in, words_in, said};
+
+use memchr::memchr;
 
 fn blank(byte: u8) -> bool
     ensures { result ≡ is_blank byte }
@@ -11,16 +13,15 @@ fn blank(byte: u8) -> bool
     byte == b' ' || byte == b'\t'
 }
 
-fn line_feed_in(bytes: &[u8]) -> Option<usize>
-    ensures { result ≡ position (λ byte. byte == 10) bytes.now }
+/// The first place of a byte. The front is asked alone: lines without words are mostly empty, or begin with `#`.
+#[tactic(auto, using(crate::proofs::Places::first_place, crate::proofs::Places::at_front))]
+fn place_of(byte: u8, text: &[u8]) -> Option<usize>
+    ensures { result ≡ position (λ other. other == byte) text.now }
 {
-    bytes.iter().position(|byte| *byte == b'\n')
-}
-
-fn comment_in(text: &[u8]) -> Option<usize>
-    ensures { result ≡ position (λ byte. byte == 35) text.now }
-{
-    text.iter().position(|byte| *byte == b'#')
+    if !text.is_empty() && text[0] == byte {
+        return Some(0);
+    }
+    memchr(byte, text)
 }
 
 fn blank_in(text: &[u8]) -> Option<usize>
@@ -39,9 +40,10 @@ fn word_in(text: &[u8]) -> Option<usize>
 pub(crate) fn cut_line(bytes: &[u8]) -> (&[u8], &[u8])
     requires { 0 < length bytes.now }
     ensures cut { lines_in bytes.now ≡ result.0.now ∷ lines_in result.1.now }
+    ensures behind { result.1.now ≡ after_feed bytes.now }
     ensures shorter { length result.1.now < length bytes.now }
 {
-    match line_feed_in(bytes) {
+    match place_of(b'\n', bytes) {
         Some(end) => {
             let (line, rest) = bytes.split_at(end);
             let (_, rest) = rest.split_at(1);
@@ -63,7 +65,7 @@ fn without_return(text: &[u8]) -> &[u8]
 fn without_comment(text: &[u8]) -> &[u8]
     ensures { result.now ≡ before_first (λ byte. byte == 35) text.now }
 {
-    match comment_in(text) {
+    match place_of(b'#', text) {
         Some(end) => text.split_at(end).0,
         None => text,
     }

@@ -1,7 +1,8 @@
 //! The lines of a text that have words, and the words of a line.
 
-ghost use Rattle.std.specs.Prelude.{◌≡◌, ◌+◌, ◌<◌, ◌≤◌, List, [], ◌∷◌, length, MatchOption, IfSome, IfOk, IfErr};
-ghost use Rattle.vp_text.specs.Lines.{lines_in, words_in, said, feed_of};
+ghost use Rattle.std.specs.Prelude.{◌≡◌, ◌+◌, ◌<◌, ◌≤◌, true, false, List, [], ◌∷◌, length, MatchOption, IfSome, IfOk, IfErr};
+ghost use Rattle.vp_text.specs.Lines.{lines_in, words_in, said, feed_of, at_end, rest_of};
+ghost use Rattle.vp_text.specs.Pieces.{none_left};
 ghost use Rattle.vp_text.specs.Reading.{behind, next_is, only_is};
 
 use crate::Refused;
@@ -26,6 +27,7 @@ impl<'a> Model for Words<'a> {
 /// The lines of a text that are left. Lines are counted from 1, also those without words.
 #[derive(Drop)]
 pub struct Lines<'a> {
+    text: &'a [u8],
     rest: &'a [u8],
     count: u32,
     last: u32,
@@ -33,17 +35,17 @@ pub struct Lines<'a> {
 
 impl<'a> Model for Lines<'a> {
     ghost use Rattle.std.specs.Prelude.{◌+◌, ◌≤◌, length};
-    ghost use Rattle.vp_text.specs.Lines.{Feed, lines_in, numbered};
+    ghost use Rattle.vp_text.specs.Lines.{Feed, lines_in, numbered, IsReading};
 
     ghost Value = { Feed };
 
     ghost view = { λ l. record {
       lines = numbered (l.count + 1) (lines_in l.rest.now);
-      past = length (lines_in l.rest.now) + l.count + 1;
+      past = record { line = length (lines_in l.rest.now) + l.count + 1; bytes = l.text.now };
       last = l.last;
     } };
 
-    ghost invariant = { λ l. l.count + length l.rest.now ≤ 67108864 };
+    ghost invariant = { λ l. IsReading l.count l.last l.text.now l.rest.now };
 }
 
 impl<'a> Words<'a> {
@@ -79,6 +81,20 @@ impl<'a> Words<'a> {
         }
     }
 
+    /// Looks ahead: no word is left.
+    pub fn is_empty(&self) -> bool
+        ensures { result ≡ none_left self.now.words }
+    {
+        self.again().next().is_none()
+    }
+
+    /// Nothing more may stand on this line: `None` where a word does.
+    pub fn end(&self) -> Option<()>
+        ensures { MatchOption result (none_left self.now.words ≡ false) (λ u. none_left self.now.words ≡ true) }
+    {
+        if self.is_empty() { Some(()) } else { None }
+    }
+
     /// Looks ahead: the next word is this one.
     pub fn next_is(&self, word: &[u8]) -> bool
         ensures { result ≡ next_is word.now self.now.words }
@@ -105,11 +121,13 @@ impl<'a> Words<'a> {
 impl<'a> Lines<'a> {
     /// The lines of a text of at most 64 MiB: they end at line feeds, `#` begins a comment, and words stand between
     /// spaces and tabs.
+    #[tactic(auto, unfolding(crate::specs::Lines::behind_line))]
     pub fn new(bytes: &'a [u8]) -> Lines<'a>
         requires { length bytes.now ≤ 67108864 }
         ensures { result ≡ feed_of bytes.now }
     {
         Lines {
+            text: bytes,
             rest: bytes,
             count: 0,
             last: 0,
@@ -117,13 +135,14 @@ impl<'a> Lines<'a> {
     }
 
     /// The next line that has words.
+    #[tactic(auto, using(crate::proofs::Rests::behind_next, crate::proofs::Rests::behind_none), unfolding(crate::specs::Lines::behind_line))]
     pub fn next(&mut self) -> Option<Words<'a>>
-        ensures past { self.new.past ≡ self.old.past }
-        // Exactly where no line with words is left there is none, and nothing changes.
-        ensures next { MatchOption result ((self.old.lines ≡ []) × (self.new ≡ self.old))
-            (λ words. (self.old.lines ≡ words ∷ self.new.lines) × (self.new.last ≡ words.line)) }
+        ensures past { self.new.past.line ≡ self.old.past.line }
+        // Exactly where no line with words is left there is none, and no byte is told from then on.
+        ensures next { MatchOption result ((self.old.lines ≡ []) × (self.new ≡ at_end self.old))
+            (λ words. (self.old.lines ≡ words ∷ self.new.lines) × (self.new.last ≡ words.line) × (self.new.past ≡ self.old.past)) }
     {
-        while !self.rest.is_empty() {
+        'lines: while !self.rest.is_empty() {
             let (line, rest) = cut_line(self.rest);
             let text = from_word(what_is_said(line));
             self.rest = rest;
@@ -136,15 +155,16 @@ impl<'a> Lines<'a> {
                 });
             }
         }
+        self.text = self.rest;
         None
     }
 
     /// The next line that has words, where one is wanted. `Refused` is the line past the end, where none is left.
     pub fn next_wanted(&mut self) -> Result<Words<'a>, Refused>
-        ensures past { self.new.past ≡ self.old.past }
-        ensures next { IfOk result (λ words. (self.old.lines ≡ words ∷ self.new.lines) × (self.new.last ≡ words.line)) }
-        // Nothing changes where no line is left.
-        ensures none { IfErr result (λ e. (self.old.lines ≡ []) × (self.new ≡ self.old) × (e.line ≡ self.old.past)) }
+        ensures past { self.new.past.line ≡ self.old.past.line }
+        ensures next { IfOk result (λ words. (self.old.lines ≡ words ∷ self.new.lines) × (self.new.last ≡ words.line) × (self.new.past ≡ self.old.past)) }
+        // No byte is told from then on where no line is left.
+        ensures none { IfErr result (λ e. (self.old.lines ≡ []) × (self.new ≡ at_end self.old) × (e.line ≡ self.old.past.line)) }
     {
         match self.next() {
             Some(words) => Ok(words),
@@ -154,7 +174,7 @@ impl<'a> Lines<'a> {
 
     /// One more than the number of lines of the text. It walks the lines that are left.
     pub fn past(&self) -> u32
-        ensures { result ≡ self.now.past }
+        ensures { result ≡ self.now.past.line }
     {
         let mut rest = self.rest;
         let mut count = self.count;
@@ -172,11 +192,28 @@ impl<'a> Lines<'a> {
         self.last
     }
 
+    /// The bytes behind the line feed of the line that was given last: all before the first is given, and none where
+    /// that line has no line feed or where no line was left.
+    pub fn rest(&self) -> &'a [u8]
+        ensures { result.now ≡ rest_of self.now }
+    {
+        self.rest
+    }
+
+    /// There are at most as many lines as a text has bytes.
+    #[tactic(auto, using(crate::proofs::Few::few_lines, crate::proofs::Few::few_numbered))]
+    pub fn are_few(&self)
+        ensures { length self.now.lines ≤ 67108864 }
+    {
+        let _ = &self.rest;
+    }
+
     /// A reader of the same lines, to look ahead with.
     pub fn again(&self) -> Lines<'a>
         ensures { result ≡ self.now }
     {
         Lines {
+            text: self.text,
             rest: self.rest,
             count: self.count,
             last: self.last,

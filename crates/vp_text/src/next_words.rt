@@ -3,7 +3,7 @@
 
 ghost use Rattle.std.specs.Prelude.{◌≡◌, ◌≤◌, IfSome};
 ghost use Rattle.vp_text.specs.Numbers.{number_of, number_within};
-ghost use Rattle.vp_text.specs.Pieces.{Takes, key_word, one_word};
+ghost use Rattle.vp_text.specs.Pieces.{Takes, key_word, keyed, one_word};
 
 use crate::{Words, number};
 
@@ -38,4 +38,15 @@ pub fn next_number_within(words: &mut Words, least: u64, most: u64) -> Option<u6
     } else {
         None
     }
+}
+
+/// A line of two words: this word, and a number from `least` to `most` in its decimal digits.
+pub fn keyed_number(words: &mut Words, key: &[u8], least: u64, most: u64) -> Option<u64>
+    ensures line { result ≡ keyed key.now (number_within least most) words.old.words }
+    ensures within { IfSome result (λ n. (least ≤ n) × (n ≤ most)) }
+{
+    key_word(words, key)?;
+    let value = next_number_within(words, least, most)?;
+    words.end()?;
+    Some(value)
 }

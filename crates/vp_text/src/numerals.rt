@@ -1,9 +1,44 @@
 //! Numbers in words.
 
-ghost use Rattle.std.specs.Prelude.{◌≡◌, ◌<◌, ◌^◌, ℕ, decimal, IfSome, IfNone};
+ghost use Rattle.std.specs.Prelude.{◌≡◌, ◌<◌, ◌≤◌, ◌+◌, ◌*◌, ◌^◌, ◌↔◌, ℕ, length, slice_index, decimal, IsTrue, IfSome, IfNone};
+ghost use Rattle.std.specs.Char.{digit_value};
+ghost use Rattle.std.specs.Str.Parse.{AllDigits, digits_value};
 ghost use Rattle.vp_text.specs.Numbers.{number_of};
 
-use itoa::Buffer;
+/// A number with one more digit behind it, where this byte is a digit and the number stays below 2^64.
+fn with_digit(value: u64, byte: u8) -> Option<u64>
+    ensures below { IfSome result (λ n. n < 2 ^ 64) }
+    ensures some { IfSome result (λ n. (digit_value byte < 10) × (n ≡ value * 10 + digit_value byte)) }
+    ensures none { IfNone result (digit_value byte < 10 → 2 ^ 64 ≤ value * 10 + digit_value byte) }
+{
+    let digit = byte.wrapping_sub(b'0');
+    if digit > 9 {
+        return None;
+    }
+    value.checked_mul(10)?.checked_add(u64::from(digit))
+}
+
+/// The number below 2^64 that these digits write.
+fn value_of(digits: &[u8]) -> Option<u64>
+    ensures some { IfSome result (λ n. (n < 2 ^ 64) × AllDigits 10 digits.now × (n ≡ digits_value 10 digits.now)) }
+    ensures none { IfNone result (AllDigits 10 digits.now → 2 ^ 64 ≤ digits_value 10 digits.now) }
+{
+    let mut value = 0;
+    for byte in digits {
+        let Some(more) = with_digit(value, *byte) else {
+            return None;
+        };
+        value = more;
+    }
+    Some(value)
+}
+
+/// Whether a digit stands behind a zero at the front.
+fn has_leading_zero(text: &[u8]) -> bool
+    ensures { IsTrue result ↔ ((1 < length text.now) × (slice_index text.now 0 ≡ 48)) }
+{
+    text.len() > 1 && text[0] == b'0'
+}
 
 /// The number below 2^64 that is written in decimal digits, without a sign and without a leading zero.
 /// `None` for every other text.
@@ -14,16 +49,8 @@ pub fn number(text: &[u8]) -> Option<u64>
     // Nothing is read exactly where no number below 2^64 is written so.
     ensures none { IfNone result ((value : ℕ) → value < 2 ^ 64 → text.now ≡ decimal value → ⊥) }
 {
-    let Ok(digits) = std::str::from_utf8(text) else {
+    if text.is_empty() || has_leading_zero(text) {
         return None;
-    };
-    let Ok(value) = digits.parse::<u64>() else {
-        return None;
-    };
-    let mut buffer = Buffer::new();
-    if buffer.format(value).as_bytes() == text {
-        Some(value)
-    } else {
-        None
     }
+    value_of(text)
 }
