@@ -22,11 +22,15 @@ GaveUpTo old new n = (bytes : List ℕ) × Consumes old new bytes × (length byt
 abbrev pub GaveAll : Option (List ℕ) → Option (List ℕ) → List ℕ → Type 0
 GaveAll old new bytes = Consumes old new bytes × IsAtEnd new
 
+-- the sink took the first n of the bytes, and not all of them
+abbrev pub TookFront : ℕ → Option (List ℕ) → Option (List ℕ) → List ℕ → Type 0
+TookFront n old new bytes = (n < length bytes) × Appends old new (take n bytes)
+
 -- the sink took the front of the bytes, and not all of them
 abbrev pub TookPart : Option (List ℕ) → Option (List ℕ) → List ℕ → Type 0
 TookPart old new bytes = (n : ℕ) × (n < length bytes) × Appends old new (take n bytes)
 
--- an adapter over std: the bytes that the reader has left or the writer holds, where std tells them, and how many calls failed
-pub record Adapted : Type 0 where
+-- what a source has left or a sink has taken, where it tells, and its count of faults
+pub record Told : Type 0 where
   pub bytes : Option (List ℕ)
   pub faults : ℕ

@@ -43,9 +43,7 @@ impl Sink for CountSink {
     ghost use Rattle.vp_io.specs.Causes.{HasCause};
     ghost use Rattle.vp_io.specs.Streams.{TakesSome};
 
-    ghost taken = { λ _. None };
-
-    ghost faults = { λ _. 0 };
+    ghost told = { λ _. record { bytes = None; faults = 0 } };
 
     /// It never fails.
     fn write(&mut self, piece: &[u8]) -> Result<usize, Failed>

@@ -2,6 +2,8 @@
 //! whole texts through them.
 #![tactic(auto)]
 
+mod block;
+mod blocks;
 mod calls;
 mod count_sink;
 mod fault;
@@ -14,6 +16,7 @@ mod sink;
 mod source;
 mod whole;
 
+pub use blocks::Blocks;
 pub use count_sink::CountSink;
 pub use fault::{Failed, ReadStop, WriteFault};
 pub use mem_sink::MemSink;

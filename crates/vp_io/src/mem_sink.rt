@@ -56,9 +56,7 @@ impl<'a> Sink for MemSink<'a> {
     ghost use Rattle.vp_io.specs.Streams.{TakesSome};
     ghost use Rattle.vp_io.specs.Memory.{fails_next, after_call, after_fault, overflows};
 
-    ghost taken = { λ s. Some s.taken };
-
-    ghost faults = { λ s. s.calls.faults };
+    ghost told = { λ s. record { bytes = Some s.taken; faults = s.calls.faults } };
 
     /// It fails exactly at the listed calls and where it is full, and else takes as many bytes as there are, up to the
     /// step and the room.

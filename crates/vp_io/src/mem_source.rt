@@ -47,9 +47,7 @@ impl<'a> Source for MemSource<'a> {
     ghost use Rattle.vp_io.specs.Streams.{TellsEnd};
     ghost use Rattle.vp_io.specs.Memory.{fails_next, after_call, after_fault};
 
-    ghost left = { λ s. Some s.left };
-
-    ghost faults = { λ s. s.calls.faults };
+    ghost told = { λ s. record { bytes = Some s.left; faults = s.calls.faults } };
 
     /// It fails exactly at the listed calls, and else gives as many bytes as it has, up to the step and the room.
     fn read(&mut self, into: &mut [u8]) -> Result<usize, Failed>

@@ -35,9 +35,7 @@ impl<'a> Source for PureSource<'a> {
     ghost use Rattle.vp_io.specs.Causes.{HasCause};
     ghost use Rattle.vp_io.specs.Streams.{TellsEnd};
 
-    ghost left = { λ s. Some s };
-
-    ghost faults = { λ _. 0 };
+    ghost told = { λ s. record { bytes = Some s; faults = 0 } };
 
     /// It never fails.
     fn read(&mut self, into: &mut [u8]) -> Result<usize, Failed>

@@ -19,9 +19,9 @@ pub struct RealSink<W: Write> {
 }
 
 impl<W: Write> Model for RealSink<W> {
-    ghost use Rattle.vp_io.specs.Streams.{Adapted};
+    ghost use Rattle.vp_io.specs.Streams.{Told};
 
-    ghost Value = { Adapted };
+    ghost Value = { Told };
 
     ghost view = { λ s. record { bytes = W.contents s.writer; faults = s.faults } };
 }
@@ -53,9 +53,7 @@ impl<W: Write> Sink for RealSink<W> {
     ghost use Rattle.vp_io.specs.Causes.{HasCause, one_more};
     ghost use Rattle.vp_io.specs.Streams.{TakesSome};
 
-    ghost taken = { λ _. None };
-
-    ghost faults = { λ s. s.faults };
+    ghost told = { λ s. record { bytes = None; faults = s.faults } };
 
     /// One write of the writer, flushed.
     fn write(&mut self, piece: &[u8]) -> Result<usize, Failed>

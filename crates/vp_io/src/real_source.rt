@@ -14,9 +14,9 @@ pub struct RealSource<R: Read> {
 }
 
 impl<R: Read> Model for RealSource<R> {
-    ghost use Rattle.vp_io.specs.Streams.{Adapted};
+    ghost use Rattle.vp_io.specs.Streams.{Told};
 
-    ghost Value = { Adapted };
+    ghost Value = { Told };
 
     ghost view = { λ s. record { bytes = R.remaining s.reader; faults = s.faults } };
 }
@@ -37,9 +37,7 @@ impl<R: Read> Source for RealSource<R> {
     ghost use Rattle.vp_io.specs.Causes.{HasCause, one_more};
     ghost use Rattle.vp_io.specs.Streams.{TellsEnd};
 
-    ghost left = { λ _. None };
-
-    ghost faults = { λ s. s.faults };
+    ghost told = { λ s. record { bytes = None; faults = s.faults } };
 
     /// One read of the reader.
     fn read(&mut self, into: &mut [u8]) -> Result<usize, Failed>
