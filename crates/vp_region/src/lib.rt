@@ -38,6 +38,15 @@ impl Region {
         Ok(Region { words })
     }
 
+    /// No words. It asks for no memory.
+    pub fn none(alloc: Global) -> Region
+        ensures { result ≡ 0 }
+    {
+        Region {
+            words: Vec::new(alloc),
+        }
+    }
+
     /// Starts over at the whole block; the loans of an earlier carving have ended.
     pub fn carve(&mut self) -> Carver<'_>
         ensures* back { sem 𝓛 (Lends the_row (Array word 0) self.entry result.rest (λ _. self.old)) }
@@ -64,46 +73,29 @@ impl<'a> Carver<'a> {
         ensures rest { IfSome result (λ part. length self.new.rest.now + words ≡ length self.old.rest.now) }
         ensures same { IfNone result (self.new ≡ self.old) }
     {
+        let Some(part) = self.take_as_it_is(words) else {
+            return None;
+        };
+        part.fill(0);
+        Some(part)
+    }
+
+    /// A slice of so many words, which hold any numbers, or `None` exactly where fewer words are left. It is for who
+    /// writes every word before reading one.
+    pub fn take_as_it_is(&mut self, words: usize) -> Option<&'a mut [u64]>
+        ensures none { IsNone result ↔ (length self.old.rest.now < words) }
+        ensures some { IfSome result (λ part. length part.now ≡ words) }
+        ensures rest { IfSome result (λ part. length self.new.rest.now + words ≡ length self.old.rest.now) }
+        ensures same { IfNone result (self.new ≡ self.old) }
+    {
         if self.rest.len() < words {
             return None;
         }
         let (part, rest) = mem::take(&mut self.rest).split_at_mut(words);
-        part.fill(0);
         self.rest = rest;
         Some(part)
     }
 }
 
 #[cfg(test)]
-mod tests {
-    use super::*;
-    use std::test::*;
-
-    #[test]
-    fn ten_words_are_handed_out_once(rt: HostRuntime) -> Result<(), Fail> {
-        let mut region = Region::open(rt.alloc(), 10)?;
-        let mut carver = region.carve();
-        let four = carver.take(4).ok_or("four of ten words")?;
-        assert_eq!(rt; four.len(), 4);
-        assert_eq!(rt; carver.rest(), 6);
-        assert!(rt; carver.take(7).is_none());
-        assert_eq!(rt; carver.rest(), 6);
-        let six = carver.take(6).ok_or("the other six")?;
-        six[5] = 9;
-        assert_eq!(rt; six.len(), 6);
-        let none = carver.take(0).ok_or("no words")?;
-        assert_eq!(rt; none.len(), 0);
-        assert_eq!(rt; four[3] + six[5], 9);
-        Ok(())
-    }
-
-    #[test]
-    fn a_second_carving_is_zeros_again(rt: HostRuntime) -> Result<(), Fail> {
-        let mut region = Region::open(rt.alloc(), 3)?;
-        let first = region.carve().take(3).ok_or("three words")?;
-        first[2] = 7;
-        let second = region.carve().take(3).ok_or("three words again")?;
-        assert_eq!(rt; second[2], 0);
-        Ok(())
-    }
-}
+mod tests;
