@@ -1,0 +1,11 @@
+//! The lines that the program writes, each as its words.
+#![tactic(auto)]
+
+mod lines;
+mod words;
+
+pub use lines::{put_lines, put_words};
+pub use words::Word;
+
+#[cfg(test)]
+mod tests;
