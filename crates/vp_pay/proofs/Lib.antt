@@ -1,10 +1,10 @@
+pub mod Again
 pub mod BuiltIns
-pub mod Cards
 pub mod Columns
 pub mod Deals
 pub mod Patterns
 pub mod PayLines
 pub mod Plain
-pub mod Puts
 pub mod Tables
 pub mod Values
+pub mod LineWords

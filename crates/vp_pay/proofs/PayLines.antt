@@ -13,7 +13,7 @@ use Rattle.vp_pay.specs.declared.pattern.Qualifier.{Qualifier}
 use Rattle.vp_pay.specs.declared.pattern.Qualifier.TheVariants.{Either, Natural, Wild}
 use Rattle.vp_pay.specs.declared.table.PayLine.{PayLine}
 use Rattle.vp_text.specs.Pieces.{ExactPiece, AreMany}
-use Rattle.vp_pay.specs.Spelling.{pattern_words, qualifier_word, line_words}
+use Rattle.vp_pay.specs.Spelling.{pattern_words, qualifier_word, pay_line_words}
 use Rattle.vp_pay.specs.Reading.{pattern_piece, columns_piece, pay_line_of}
 use Rattle.vp_pay.specs.Table.{ArePays, IsPayLine}
 use Rattle.vp_text.proofs.Pieces.{both_true, bound, at_end, so, took, Exact-one_word, Exact-so_many, Exact-key_word}
@@ -84,8 +84,8 @@ joined : (words w1 w2 w3 w4 w5 : List Word) (l n : Word) (p : List Word) (q : Wo
     → words ≡ l ∷ w1 → w1 ≡ n ∷ w2 → w2 ≡ p ++ w3 → w3 ≡ q ∷ w4 → w4 ≡ c ++ w5 → w5 ≡ [] → l ∷ n ∷ p ++ q ∷ c ≡ words
 joined words w1 w2 w3 w4 w5 l n p q c e1 e2 e3 e4 e5 e6 = rw (e1, e2, e3, e4, e5, e6, append-nil c)
 
-line_taken : (coins : ℕ) (words : List Word) (line : PayLine) → coins ≤ 5 → pay_line_of coins words ≡ Some line → IsPayLine coins line × (line_words coins line ≡ words)
-unfolding pay_line_of line_words
+line_taken : (coins : ℕ) (words : List Word) (line : PayLine) → coins ≤ 5 → pay_line_of coins words ≡ Some line → IsPayLine coins line × (pay_line_words coins line ≡ words)
+unfolding pay_line_of pay_line_words
 line_taken coins words line few read =
     let key = bound _ _ _ read
     in let name = bound _ _ _ key.then
@@ -99,7 +99,7 @@ line_taken coins words line few read =
     in let q = took (Exact-one_word Exact-qualifier) pattern.value.1 qualifier.value qualifier.first
     in let c = took (Exact-columns coins few) qualifier.value.1 pays.value pays.first
     in let made : PayLine = record { name = name.value.0; pattern = pattern.value.0; qualifier = qualifier.value.0; pays = pays.value.0 }
-    in let P : PayLine → Type 0 = λ l. IsPayLine coins l × (line_words coins l ≡ words)
+    in let P : PayLine → Type 0 = λ l. IsPayLine coins l × (pay_line_words coins l ≡ words)
     in subst P end.1 (
       record { name = n.valid; pattern = p.valid; pays = c.valid },
       joined words _ _ _ _ _ (codes "line") name.value.0 (pattern_words pattern.value.0) (qualifier_word qualifier.value.0) (map decimal (take coins pays.value.0)) k.front n.front p.front q.front c.front end.0,
@@ -110,8 +110,8 @@ qualifier_no_kicker Either rest = refl
 qualifier_no_kicker Natural rest = refl
 qualifier_no_kicker Wild rest = refl
 
-line_again : (coins : ℕ) (line : PayLine) → coins ≤ 5 → IsPayLine coins line → pay_line_of coins (line_words coins line) ≡ Some line
-unfolding pay_line_of line_words
+line_again : (coins : ℕ) (line : PayLine) → coins ≤ 5 → IsPayLine coins line → pay_line_of coins (pay_line_words coins line) ≡ Some line
+unfolding pay_line_of pay_line_words
 line_again coins line few is =
     let pays : columns_piece coins (map decimal (take coins line.pays)) ≡ Some (line.pays, []) =
     ap (columns_piece coins) (sym (append-nil (map decimal (take coins line.pays)))) ∙ columns_again coins [] line.pays few is.pays
@@ -120,7 +120,7 @@ line_again coins line few is =
     Exact-pattern.again rest line.pattern is.pattern (qualifier_no_kicker line.qualifier (map decimal (take coins line.pays)))
     in rw (Exact-name.again line.name is.name, pattern, Exact-qualifier.again line.qualifier tt, pays)
 
-pub Exact-pay_line : (coins : ℕ) → coins ≤ 5 → ExactText (line_words coins) (IsPayLine coins) (pay_line_of coins)
+pub Exact-pay_line : (coins : ℕ) → coins ≤ 5 → ExactText (pay_line_words coins) (IsPayLine coins) (pay_line_of coins)
 Exact-pay_line coins few = record {
   takes = λ words line read. line_taken coins words line few read;
   again = λ line is. line_again coins line few is;

@@ -6,7 +6,7 @@ use Rattle.std.specs.Fmt.{decimal}
 use Rattle.std.proofs.lemmas.Bool.{cases_lt, lt-ltb, le-ltb}
 use Rattle.std.proofs.lemmas.Bool.Decides.{nat_tests}
 use Rattle.vp_card.specs.Cards.{held, is_rank_set}
-use Rattle.vp_card.specs.Texts.{rank_letters, suit_letters, joker_text, card_text, any_text, rank_set_text}
+use Rattle.vp_card.specs.Texts.{rank_letters, suit_letters, joker_text, second_joker_text, card_text, any_text, rank_set_text}
 use Rattle.vp_card.specs.Reading.{rank_set_of}
 use Rattle.vp_card.proofs.RankSets.{rank_set_of-text}
 use Rattle.vp_text.specs.Lines.{Word}
@@ -18,7 +18,7 @@ use Rattle.vp_pay.specs.declared.pattern.Qualifier.TheVariants.{Either, Natural,
 use Rattle.vp_pay.specs.declared.table.PayLine.{PayLine}
 use Rattle.vp_pay.specs.declared.table.PayTable.{PayTable}
 use Rattle.vp_pay.specs.Names.{is_letter, is_name_byte, is_name}
-use Rattle.vp_pay.specs.Spelling.{kicker_words, pattern_words, qualifier_word, wild_word, line_words, table_text}
+use Rattle.vp_pay.specs.Spelling.{kicker_words, pattern_words, qualifier_word, wild_word, pay_line_words, table_text, deal_text}
 use Rattle.vp_pay.specs.Table.{is_kicker, is_pattern, IsPayLine, IsTable}
 use Rattle.vp_text.proofs.Pieces.{both_true}
 use Rattle.vp_text.proofs.PlainWords.{AreHigh, high_word, are_high, plain_key, high_at, plain_number, plain_words}
@@ -127,8 +127,8 @@ plain_payments : (pays : List ℕ) → AllByRecursion (λ pay. pay ≤ 500000) p
 plain_payments [] all = tt
 plain_payments (pay ∷ pays) all = (plain_number pay (omega (arith, all.0)), plain_payments pays all.1)
 
-plain_line : (coins : ℕ) (line : PayLine) → coins ≤ 5 → IsPayLine coins line → IsPlainLine (line_words coins line)
-unfolding line_words
+plain_line : (coins : ℕ) (line : PayLine) → coins ≤ 5 → IsPayLine coins line → IsPlainLine (pay_line_words coins line)
+unfolding pay_line_words
 plain_line coins line few is =
     let pays = unpadded coins line.pays few is.pays
     in (
@@ -151,7 +151,7 @@ plain_wild : (wild : Option ℕ) → IfSome wild (λ rank. rank < 13) → IsPlai
 plain_wild None is = plain_key (codes "none") (omega arith) refl
 plain_wild (Some rank) is = high_word (get_or rank_letters rank 0 ∷ []) (omega arith) (high_at rank_letters rank (omega (arith, thirteen, is)) letters_high, tt)
 
-plain_lines : (coins : ℕ) (lines : List PayLine) → coins ≤ 5 → AllByRecursion (IsPayLine coins) lines → AllByRecursion IsPlainLine (map (line_words coins) lines ++ (codes "end" ∷ []) ∷ [])
+plain_lines : (coins : ℕ) (lines : List PayLine) → coins ≤ 5 → AllByRecursion (IsPayLine coins) lines → AllByRecursion IsPlainLine (map (pay_line_words coins) lines ++ (codes "end" ∷ []) ∷ [])
 plain_lines coins [] few all = ((omega arith, (plain_key (codes "end") (omega arith) refl, tt)), tt)
 plain_lines coins (line ∷ lines) few all = (plain_line coins line few all.0, plain_lines coins lines few all.1)
 
@@ -163,7 +163,7 @@ unfolding table_text
 plain_table t is = (
   two (codes "table") t.name (plain_key (codes "table") (omega arith) refl) (plain_name t.name is.name),
   (
-    two (codes "deck") (decimal t.deck) (plain_key (codes "deck") (omega arith) refl) (plain_number t.deck (omega (arith, is.greatest_deck))),
+    two (codes "deck") (decimal t.deck) (plain_key (codes "deck") (omega arith) refl) (plain_number t.deck (omega (arith, is.known_deck.1))),
     (
       two (codes "wild") (wild_word t.wild) (plain_key (codes "wild") (omega arith) refl) (plain_wild t.wild is.wild),
       (
@@ -185,12 +185,25 @@ unfolding suit_letters
 four = refl
 
 -- a card's text
+either : (first : Bool) → IsPlainWord (cond first joker_text second_joker_text)
+unfolding joker_text second_joker_text
+either true = plain_key (codes "Jo") (omega arith) refl
+either false = plain_key (codes "Jk") (omega arith) refl
+
 pub plain_card : (card : ℕ) → IsPlainWord (card_text card)
-unfolding card_text joker_text
+unfolding card_text joker_text second_joker_text
 plain_card card = elim (cases_lt card 52) [
   | inl natural ↦
       let rank_byte : 45 ≤ get_or rank_letters (card / 4) 0 = high_at rank_letters (card / 4) (omega (arith, thirteen)) letters_high in
       let suit_byte : 45 ≤ get_or suit_letters (card % 4) 0 = high_at suit_letters (card % 4) (omega (arith, four)) suits_high in
       rw (lt-ltb card 52 natural) (high_word (get_or rank_letters (card / 4) 0 ∷ get_or suit_letters (card % 4) 0 ∷ []) (omega arith) (rank_byte, (suit_byte, tt)))
-  | inr joker ↦ rw (le-ltb card 52 joker) (plain_key (codes "Jo") (omega arith) refl)
+  | inr joker ↦ rw (le-ltb card 52 joker) (either (card == 52))
 ]
+
+plain_cards : (cards : List ℕ) → AllByRecursion IsPlainWord (map card_text cards)
+plain_cards [] = tt
+plain_cards (card ∷ cards) = (plain_card card, plain_cards cards)
+
+pub plain_deal : (cards : List ℕ) → IsPlainText (deal_text cards)
+unfolding deal_text
+plain_deal cards = ((omega arith, (plain_key (codes "deal") (omega arith) refl, plain_cards cards)), tt)

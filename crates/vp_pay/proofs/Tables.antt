@@ -7,6 +7,7 @@ use Rattle.std.specs.Cmp.Lexicographic.{pointwise}
 use Rattle.std.proofs.lemmas.List.{append-nil, length-replicate}
 use Rattle.std.proofs.lemmas.Bool.{leb-true, le-leb}
 use Rattle.std.proofs.lemmas.Bool.Decides.{nat_tests}
+use Rattle.vp_card.specs.Cards.{IsDeck}
 use Rattle.vp_text.specs.Lines.{Word, Feed}
 use Rattle.vp_text.specs.Sections.{Text, Starts, Refuses, both_text, AreBoth}
 use Rattle.vp_text.specs.ExactReaders.{Exact, Keeps, Closes, AreClosed, closed_text, ExactText}
@@ -21,7 +22,7 @@ use Rattle.vp_pay.specs.declared.pattern.Qualifier.TheVariants.{Either}
 use Rattle.vp_pay.specs.declared.table.PayLine.{PayLine}
 use Rattle.vp_pay.specs.declared.table.PayTable.{PayTable}
 use Rattle.vp_pay.specs.Names.{is_name}
-use Rattle.vp_pay.specs.Spelling.{wild_word, line_words, table_text}
+use Rattle.vp_pay.specs.Spelling.{wild_word, pay_line_words, table_text}
 use Rattle.vp_pay.specs.Reading.{has_name, next_line_of}
 use Rattle.vp_pay.specs.Sections.{name_line, deck_line, wild_line, coins_line, some_lines, pay_lines, Parts, table_of, parts_at, table_at}
 use Rattle.vp_pay.specs.Table.{IsPayLine, IsTable}
@@ -41,33 +42,33 @@ not_true : (b : Bool) → not b ≡ true → b ≡ false
 not_true true h = sym h
 not_true false h = refl
 
-next_taken : (coins : ℕ) (front : List PayLine) (words : List Word) (line : PayLine) → coins ≤ 5 → next_line_of coins front words ≡ Some line → MayFollow coins front line × (line_words coins line ≡ words)
+next_taken : (coins : ℕ) (front : List PayLine) (words : List Word) (line : PayLine) → coins ≤ 5 → next_line_of coins front words ≡ Some line → MayFollow coins front line × (pay_line_words coins line ≡ words)
 unfolding next_line_of
 next_taken coins front words line few read =
     let first = bound _ _ _ read
     in let l = (Exact-pay_line coins few).takes words first.value first.first
-    in chosen (λ l. MayFollow coins front l × (line_words coins l ≡ words)) (nat_lt (length front) 32 && not (has_name front first.value.name)) (Some first.value) None line first.then
+    in chosen (λ l. MayFollow coins front l × (pay_line_words coins l ≡ words)) (nat_lt (length front) 32 && not (has_name front first.value.name)) (Some first.value) None line first.then
     (λ is e.
     let parts = both_true (nat_lt (length front) 32) (not (has_name front first.value.name)) is
-    in so (λ l. MayFollow coins front l × (line_words coins l ≡ words)) first.value line e
+    in so (λ l. MayFollow coins front l × (pay_line_words coins l ≡ words)) first.value line e
     (record { pay_line = l.0; room = grind (arith, nat_tests); other = not_true _ parts.1 }, l.1))
     (λ e. absurd (no_value line e))
 
-next_again : (coins : ℕ) (front : List PayLine) (line : PayLine) → coins ≤ 5 → MayFollow coins front line → next_line_of coins front (line_words coins line) ≡ Some line
+next_again : (coins : ℕ) (front : List PayLine) (line : PayLine) → coins ≤ 5 → MayFollow coins front line → next_line_of coins front (pay_line_words coins line) ≡ Some line
 unfolding next_line_of
 next_again coins front line few is =
     let room : nat_lt (length front) 32 ≡ true = grind (arith, nat_tests, is.room)
     in rw ((Exact-pay_line coins few).again line is.pay_line, room, is.other)
 
-Exact-next_line : (coins : ℕ) → coins ≤ 5 → (front : List PayLine) → ExactText (line_words coins) (MayFollow coins front) (next_line_of coins front)
+Exact-next_line : (coins : ℕ) → coins ≤ 5 → (front : List PayLine) → ExactText (pay_line_words coins) (MayFollow coins front) (next_line_of coins front)
 Exact-next_line coins few front = record {
   takes = λ words line read. next_taken coins front words line few read;
   again = λ line is. next_again coins front line few is;
 }
 
 -- a pay line is not `end`
-not_end : (coins : ℕ) (line : PayLine) → line_words coins line ≡ codes "end" ∷ [] → ⊥
-unfolding line_words
+not_end : (coins : ℕ) (line : PayLine) → pay_line_words coins line ≡ codes "end" ∷ [] → ⊥
+unfolding pay_line_words
 not_end coins line e = cc
 
 -- some pay line of a table with so many coins
@@ -90,8 +91,8 @@ closes : (coins : ℕ) → coins ≤ 5 → (front : List PayLine) → Keeps (May
 closes coins few [] keeps = record { more = sample coins ∷ []; keeps = (record { pay_line = sample-is coins few; room = omega arith; other = refl }, tt); closes = refl }
 closes coins few (line ∷ front) keeps = record { more = []; keeps = tt; closes = le-leb 1 (length ((line ∷ front) ++ [])) (omega (arith, length-append (line ∷ front) [])) }
 
-Exact-pay_lines : (coins : ℕ) → coins ≤ 5 → Exact (closed_text (codes "end") (line_words coins)) (AreClosed some_lines (MayFollow coins)) (pay_lines coins)
-Exact-pay_lines coins few = Exact-closed (codes "end") some_lines (line_words coins) (MayFollow coins) (next_line_of coins) (Exact-next_line coins few) (λ front line is. not_end coins line) (closes coins few)
+Exact-pay_lines : (coins : ℕ) → coins ≤ 5 → Exact (closed_text (codes "end") (pay_line_words coins)) (AreClosed some_lines (MayFollow coins)) (pay_lines coins)
+Exact-pay_lines coins few = Exact-closed (codes "end") some_lines (pay_line_words coins) (MayFollow coins) (next_line_of coins) (Exact-next_line coins few) (λ front line is. not_end coins line) (closes coins few)
 
 -- ---- names that differ
 
@@ -162,9 +163,6 @@ of_all P (x ∷ xs) all = (all 0 x (omega arith), of_all P xs (λ k d inside. al
 Exact-name_line : Exact (λ (name : Word). (codes "table" ∷ name ∷ []) ∷ []) (λ name. is_name name ≡ true) name_line
 Exact-name_line = Exact-line (λ (name : Word). codes "table" ∷ name ∷ []) (λ name. is_name name ≡ true) _ (Exact-keyed (codes "table") Exact-name) (codes "a") refl
 
-abbrev IsDeck : ℕ → Type 0
-IsDeck deck = (52 ≤ deck) × (deck ≤ 53)
-
 Exact-deck_line : Exact (λ (deck : ℕ). (codes "deck" ∷ decimal deck ∷ []) ∷ []) IsDeck deck_line
 Exact-deck_line = Exact-line (λ (deck : ℕ). codes "deck" ∷ decimal deck ∷ []) IsDeck _ (Exact-keyed (codes "deck") Exact-deck) 52 (omega arith, omega arith)
 
@@ -182,7 +180,7 @@ Exact-coins_line = Exact-line (λ (coins : ℕ). codes "coins" ∷ decimal coins
 
 -- the spelling of the parts of a table, and their rules
 abbrev coins_text : ℕ × List PayLine → Text
-coins_text = both_text (λ (coins : ℕ). (codes "coins" ∷ decimal coins ∷ []) ∷ []) (λ coins. closed_text (codes "end") (line_words coins))
+coins_text = both_text (λ (coins : ℕ). (codes "coins" ∷ decimal coins ∷ []) ∷ []) (λ coins. closed_text (codes "end") (pay_line_words coins))
 
 abbrev AreLinesFor : ℕ → List PayLine → Type 0
 AreLinesFor coins = AreClosed some_lines (MayFollow coins)
@@ -204,7 +202,7 @@ Exact-parts =
     Exact-both _ _ _ (λ name. deck_text) (λ name. AreBoth IsDeck (λ deck. AreBoth IsWild (λ wild. AreBoth AreCoins AreLinesFor))) _ Exact-name_line (λ name is_name.
     Exact-both _ _ _ (λ deck. wild_text) (λ deck. AreBoth IsWild (λ wild. AreBoth AreCoins AreLinesFor)) _ Exact-deck_line (λ deck is_deck.
     Exact-both _ _ _ (λ wild. coins_text) (λ wild. AreBoth AreCoins AreLinesFor) _ Exact-wild_line (λ wild is_wild.
-    Exact-both _ _ _ (λ coins. closed_text (codes "end") (line_words coins)) AreLinesFor pay_lines Exact-coins_line (λ coins are_coins. Exact-pay_lines coins are_coins.1))))
+    Exact-both _ _ _ (λ coins. closed_text (codes "end") (pay_line_words coins)) AreLinesFor pay_lines Exact-coins_line (λ coins are_coins. Exact-pay_lines coins are_coins.1))))
 
 parts_of : PayTable → Parts
 parts_of t = (t.name, (t.deck, (t.wild, (t.coins, t.lines.items))))
@@ -221,8 +219,7 @@ parts_table p is =
     in let all = keeps_are coins [] lines closed.0 none_distinct (omega arith)
     in record {
       name = is.0;
-      least_deck = is.1.0.0;
-      greatest_deck = is.1.0.1;
+      known_deck = is.1.0;
       wild = is.1.1.0;
       some_coins = is.1.1.1.0.0;
       most_coins = is.1.1.1.0.1;
@@ -237,7 +234,7 @@ unfolding parts_of
 table_parts t is = (
   is.name,
   (
-    (is.least_deck, is.greatest_deck),
+    is.known_deck,
     (
       is.wild,
       (

@@ -1,25 +1,26 @@
 -- Words that are one value each.
-use Rattle.std.proofs.Common.{◌≡◌, ℕ, ◌<◌, ◌≤◌, Bool, true, false, ◌&&◌, [], ◌∷◌, refl, ap, sym, arith, Some, None, IfSome, get_or, ⊎_elim, eqb, ◌≢◌}
+use Rattle.std.proofs.Common.{◌≡◌, ℕ, ◌<◌, ◌≤◌, Bool, true, false, ◌&&◌, nat_le, [], ◌∷◌, refl, ap, sym, arith, Some, None, IfSome, get_or, eqb}
 use Rattle.std.specs.Prelude.{Option, option_map, bytes_eq, codes}
-use Rattle.std.specs.Fmt.{decimal, digits}
-use Rattle.std.proofs.lemmas.Bool.Decides.{eqb_tells}
-use Rattle.vp_card.specs.Cards.{is_rank_set}
+use Rattle.std.specs.Fmt.{decimal}
+use Rattle.std.proofs.lemmas.Bool.Decides.{nat_tests}
+use Rattle.vp_card.specs.Cards.{IsDeck, is_rank_set}
 use Rattle.vp_card.specs.Texts.{rank_set_text, rank_letters}
 use Rattle.vp_card.specs.Reading.{rank_of, rank_set_of}
 use Rattle.vp_card.proofs.RankSets.{rank_set_of-text, text-rank_set_of}
 use Rattle.vp_card.proofs.Texts.{rank_of-letter, rank_of-again}
 use Rattle.vp_text.specs.ExactReaders.{ExactText}
 use Rattle.vp_text.specs.Lines.{Word}
+use Rattle.vp_text.specs.Numbers.{number_of}
 use Rattle.vp_pay.specs.declared.pattern.Pattern.{Pattern}
 use Rattle.vp_pay.specs.declared.pattern.Pattern.TheVariants.{Royal, StraightFlush, FullHouse, Flush, Straight, Trips, TwoPair}
 use Rattle.vp_pay.specs.declared.pattern.Qualifier.{Qualifier}
 use Rattle.vp_pay.specs.declared.pattern.Qualifier.TheVariants.{Either, Natural, Wild}
 use Rattle.vp_pay.specs.Names.{is_name}
 use Rattle.vp_pay.specs.Spelling.{qualifier_word, wild_word, pattern_words}
-use Rattle.vp_pay.specs.Reading.{name_of, deck_of, one_to_five, payment_of, letter_of_rank, wild_of, qualifier_of, plain_of}
+use Rattle.vp_pay.specs.Reading.{name_of, is_deck, a_deck, deck_of, one_to_five, payment_of, letter_of_rank, wild_of, qualifier_of, plain_of}
 use Rattle.vp_pay.specs.Table.{is_pattern}
-use Rattle.vp_text.proofs.Numbers.{number_within_exact}
-use Rattle.vp_text.proofs.Pieces.{by_key, chosen, same_value, no_value}
+use Rattle.vp_text.proofs.Numbers.{number_exact, number_within_exact}
+use Rattle.vp_text.proofs.Pieces.{both_true, bound, by_key, chosen, same_value, no_value, so}
 
 pub Exact-rank_set : ExactText rank_set_text (λ set. is_rank_set set ≡ true) rank_set_of
 Exact-rank_set = record { takes = λ text set read. text-rank_set_of text set read; again = λ set is_set. rank_set_of-text set is_set }
@@ -32,13 +33,22 @@ Exact-name = record {
   again = λ name is. rw is;
 }
 
-pub Exact-deck : ExactText decimal (λ deck. (52 ≤ deck) × (deck ≤ 53)) deck_of
-unfolding deck_of digits
+deck_test : (n : ℕ) → IsDeck n → is_deck n ≡ true
+deck_test n is = let low = is.0 in let high = is.1 in grind (arith, nat_tests)
+
+test_deck : (n : ℕ) → is_deck n ≡ true → IsDeck n
+test_deck n is = let parts = both_true (nat_le 52 n) (nat_le n 54) is in (grind (arith, nat_tests), grind (arith, nat_tests))
+
+pub Exact-deck : ExactText decimal IsDeck deck_of
+unfolding deck_of
 Exact-deck = record {
   takes = λ text deck read.
-      by_key (λ d. ((52 ≤ d) × (d ≤ 53)) × (decimal d ≡ text)) text (codes "52") 52 _ deck read (λ is. ((omega arith, omega arith), sym is)) (λ more.
-      by_key (λ d. ((52 ≤ d) × (d ≤ 53)) × (decimal d ≡ text)) text (codes "53") 53 _ deck more (λ is. ((omega arith, omega arith), sym is)) (λ none. absurd (no_value deck none)));
-  again = λ deck is. ⊎_elim (λ (t : (eqb deck 52 ≡ true) × (deck ≡ 52)). rw t.1) (λ (t : (eqb deck 52 ≡ false) × (deck ≢ 52)). let e : deck ≡ 53 = omega arith in rw e) (eqb_tells deck 52);
+      let number = bound (number_of text) a_deck deck read in
+      let said = number_exact.takes text number.value number.first in
+      chosen (λ d. IsDeck d × (decimal d ≡ text)) (is_deck number.value) (Some number.value) None deck number.then
+      (λ is e. so (λ d. IsDeck d × (decimal d ≡ text)) number.value deck e (test_deck number.value is, said.1))
+      (λ none. absurd (no_value deck none));
+  again = λ deck is. rw (number_exact.again deck (omega (arith, is.1)), deck_test deck is);
 }
 
 -- ---- numbers

@@ -1,4 +1,5 @@
--- The four built-in pay tables.
+-- The four built-in pay tables. The first and the third are the games of S. N. Ethier, The Doctrine of Chances (2010), chapter on video poker;
+-- all four are known by their names. That any machine pays by them is not claimed.
 use Rattle.std.specs.Prelude.{ℕ, [], ◌∷◌, ◌==◌, Option, Some, None, codes, if◌then◌else◌}
 use Rattle.vp_text.specs.Lines.{Word}
 use Rattle.vp_pay.specs.declared.pattern.Pattern.{Pattern}

@@ -1,7 +1,10 @@
 pub mod BuiltIn
 pub mod Deal
 pub mod Names
+pub mod PatternWords
 pub mod Reading
 pub mod Sections
 pub mod Spelling
 pub mod Table
+pub mod Bets
+pub mod Written

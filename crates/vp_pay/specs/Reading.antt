@@ -1,11 +1,11 @@
 -- How a pay table and a deal line are read from left to right.
-use Rattle.std.specs.Prelude.{ℕ, ◌-◌, Bool, not, ◌&&◌, ◌==◌, nat_lt, List, [], ◌∷◌, ◌++◌, length, replicate, Option, Some, None, option_map, bytes_eq, codes, if◌then◌else◌}
+use Rattle.std.specs.Prelude.{ℕ, ◌-◌, Bool, not, ◌&&◌, ◌==◌, nat_le, nat_lt, List, [], ◌∷◌, ◌++◌, length, replicate, Option, Some, None, option_map, bytes_eq, codes, if◌then◌else◌}
 use Rattle.std.specs.List.{list_any}
 use Rattle.vp_card.specs.Cards.{in_deck, all_differ, in_order}
 use Rattle.vp_card.specs.Reading.{rank_of, rank_set_of, card_of}
 use Rattle.vp_text.specs.Lines.{Word}
 use Rattle.vp_text.specs.Reading.{next_is}
-use Rattle.vp_text.specs.Numbers.{number_within}
+use Rattle.vp_text.specs.Numbers.{number_of, number_within}
 use Rattle.vp_text.specs.Pieces.{Piece, ◌>>=◌, one_word, so_many, key_word, ended}
 use Rattle.vp_pay.specs.Names.{is_name}
 use Rattle.vp_pay.specs.declared.pattern.Pattern.{Pattern}
@@ -19,9 +19,16 @@ use Rattle.vp_pay.specs.declared.table.PayLine.{PayLine}
 unfoldable pub name_of : Word → Option Word
 name_of text = if is_name text then Some text else None
 
--- 52 or 53 cards
+-- the test of IsDeck
+abbrev pub is_deck : ℕ → Bool
+is_deck n = nat_le 52 n && nat_le n 54
+
+-- the number of cards of a deck
+abbrev pub a_deck : ℕ → Option ℕ
+a_deck n = if is_deck n then Some n else None
+
 unfoldable pub deck_of : Word → Option ℕ
-deck_of text = if bytes_eq text (codes "52") then Some 52 else (if bytes_eq text (codes "53") then Some 53 else None)
+deck_of text = number_of text >>= a_deck
 
 -- a number from 1 to 5
 abbrev pub one_to_five : Word → Option ℕ

@@ -1,4 +1,5 @@
--- The one spelling of a pay table, and of a deal line.
+-- The one spelling of a pay table, and of a deal line. The lines and their key words are this program's own (docs/FORMATS.md); ranks, suits and
+-- patterns have the usual names of the hands of five cards, and sets of ranks and cards are written by their usual letters (vp_card, Texts).
 use Rattle.std.specs.Prelude.{ℕ, List, [], ◌∷◌, ◌++◌, map, take, slice_index, Option, Some, None, codes}
 use Rattle.std.specs.Fmt.{decimal}
 use Rattle.vp_card.specs.Texts.{rank_letters, rank_set_text, card_text}
@@ -42,13 +43,17 @@ wild_word None = codes "none"
 wild_word (Some rank) = slice_index rank_letters rank ∷ []
 
 -- a pay line: its name, pattern and qualifier, and a payment for each bet
-unfoldable pub line_words : ℕ → PayLine → List Word
-line_words coins line = codes "line" ∷ line.name ∷ pattern_words line.pattern ++ qualifier_word line.qualifier ∷ map decimal (take coins line.pays)
+unfoldable pub pay_line_words : ℕ → PayLine → List Word
+pay_line_words coins line = codes "line" ∷ line.name ∷ pattern_words line.pattern ++ qualifier_word line.qualifier ∷ map decimal (take coins line.pays)
 
--- a pay table: four lines, its pay lines in their order, and `end`
+-- the lines in front of the pay lines: the table's name, its deck, the wild rank and the greatest bet
+abbrev pub head_text : PayTable → Text
+head_text t =
+    (codes "table" ∷ t.name ∷ []) ∷ (codes "deck" ∷ decimal t.deck ∷ []) ∷ (codes "wild" ∷ wild_word t.wild ∷ []) ∷ (codes "coins" ∷ decimal t.coins ∷ []) ∷ []
+
+-- a pay table: its head, its pay lines in their order, and `end`
 unfoldable pub table_text : PayTable → Text
-table_text t =
-    (codes "table" ∷ t.name ∷ []) ∷ (codes "deck" ∷ decimal t.deck ∷ []) ∷ (codes "wild" ∷ wild_word t.wild ∷ []) ∷ (codes "coins" ∷ decimal t.coins ∷ []) ∷ map (line_words t.coins) t.lines.items ++ (codes "end" ∷ []) ∷ []
+table_text t = head_text t ++ map (pay_line_words t.coins) t.lines.items ++ (codes "end" ∷ []) ∷ []
 
 -- a deal line: the cards in the order of dealing
 unfoldable pub deal_text : List ℕ → Text

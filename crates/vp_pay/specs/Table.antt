@@ -1,10 +1,10 @@
--- Which pay tables keep the rules and limits of the table language.
+-- Which pay tables keep the rules and limits of the table language (docs/FORMATS.md).
 use Rattle.std.specs.Prelude.{◌≡◌, ℕ, ◌-◌, ◌≤◌, ◌<◌, Bool, true, eqb, ◌&&◌, ◌==◌, nat_le, List, map, length, drop, replicate, IfSome}
 use Rattle.std.specs.declared.option.Option.{Option}
 use Rattle.std.specs.declared.option.Option.TheVariants.{Some, None}
 use Rattle.std.specs.List.{list_all, All, IsDistinct}
 use Rattle.std.specs.Cmp.Lexicographic.{pointwise}
-use Rattle.vp_card.specs.Cards.{is_rank_set}
+use Rattle.vp_card.specs.Cards.{IsDeck, is_rank_set}
 use Rattle.vp_pay.specs.declared.pattern.Pattern.{Pattern}
 use Rattle.vp_pay.specs.declared.pattern.Pattern.TheVariants.{FiveKind, Wilds, Quads, Pair}
 use Rattle.vp_pay.specs.declared.table.PayLine.{PayLine}
@@ -40,8 +40,7 @@ pub record IsPayLine (coins : ℕ) (line : PayLine) : Type 0 where
 -- a pay table that keeps the rules and limits of the table language
 pub record IsTable (t : PayTable) : Type 0 where
   pub name : is_name t.name ≡ true
-  pub least_deck : 52 ≤ t.deck
-  pub greatest_deck : t.deck ≤ 53
+  pub known_deck : IsDeck t.deck
   pub wild : IfSome t.wild (λ rank. rank < 13)
   pub some_coins : 1 ≤ t.coins
   pub most_coins : t.coins ≤ 5

@@ -1,13 +1,10 @@
 //! The four built-in pay tables, each as its text.
 
-ghost use Rattle.std.specs.Prelude.{IfSome, ◌≡◌, ◌≤◌, length};
-ghost use Rattle.vp_text.specs.Lines.{feed_of};
-ghost use Rattle.vp_pay.specs.Sections.{table_at, value_of};
+ghost use Rattle.std.specs.Prelude.{◌≡◌, IfSome};
 ghost use Rattle.vp_pay.specs.BuiltIn.{built_in};
 ghost use Rattle.vp_pay.specs.Table.{IsTable};
 
 use crate::PayTable;
-use vp_text::Lines;
 
 /// Jacks or better, nine for a full house and six for a flush.
 const JACKS: &[u8] = b"table jacks-9-6
@@ -82,17 +79,6 @@ line high-pair pair KA either 1 2 3 4 5
 end
 ";
 
-fn table_in(text: &[u8]) -> Option<PayTable>
-    requires { length text.now ≤ 67108864 }
-    ensures read { result ≡ value_of (table_at (feed_of text.now)) }
-    ensures valid { IfSome result (λ t. IsTable t) }
-{
-    match PayTable::read(&mut Lines::new(text)) {
-        Ok(table) => Some(table),
-        Err(_) => None,
-    }
-}
-
 impl PayTable {
     /// The built-in tables 0 to 3: jacks or better, bonus, deuces wild, joker with kings or better.
     #[tactic(auto, using(crate::proofs::BuiltIns::jacks_read, crate::proofs::BuiltIns::bonus_read, crate::proofs::BuiltIns::deuces_read, crate::proofs::BuiltIns::kings_read))]
@@ -101,10 +87,10 @@ impl PayTable {
         ensures valid { IfSome result (λ t. IsTable t) }
     {
         match i {
-            0 => table_in(JACKS),
-            1 => table_in(BONUS),
-            2 => table_in(DEUCES),
-            3 => table_in(KINGS),
+            0 => PayTable::in_text(JACKS),
+            1 => PayTable::in_text(BONUS),
+            2 => PayTable::in_text(DEUCES),
+            3 => PayTable::in_text(KINGS),
             _ => None,
         }
     }

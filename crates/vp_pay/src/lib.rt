@@ -6,16 +6,15 @@ mod deal;
 mod name;
 mod pattern;
 mod pay_line;
-mod putting;
 mod reading;
+pub mod samples;
 mod table;
 mod words;
 mod writing;
 
-pub use deal::{deal_spellings_differ, five_cards, next_card, read_deal};
+pub use deal::{deal_spellings_differ, five_cards, next_card, read_deal, written_deals_are_read};
 pub use name::Name;
 pub use pattern::{Pattern, Qualifier};
-pub use putting::{add_cards, add_hand, put_line};
 pub use reading::table_spellings_differ;
 pub use table::{PayLine, PayTable};
 pub use writing::written_tables_are_read;

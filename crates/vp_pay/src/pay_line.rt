@@ -1,8 +1,8 @@
 //! The pieces of a pay line, read from the front of its words.
 
-ghost use Rattle.std.specs.Prelude.{◌≡◌, ◌≤◌, ◌<◌, codes, Option, IfSome, length};
-ghost use Rattle.vp_text.specs.Pieces.{Takes, one_word, so_many, key_word, ended};
-ghost use Rattle.vp_pay.specs.Reading.{name_of, one_to_five, qualifier_of, payment_of, kicker_piece, wilds_of, wilds_piece, quads_piece, set_piece, pattern_behind, pattern_piece, columns_piece, pay_line_of};
+ghost use Rattle.std.specs.Prelude.{◌≡◌, ◌≤◌, ◌<◌, Option, IfSome};
+ghost use Rattle.vp_text.specs.Pieces.{Takes, one_word, key_word};
+ghost use Rattle.vp_pay.specs.Reading.{name_of, one_to_five, qualifier_of, payment_of, kicker_piece, wilds_piece, quads_piece, pattern_behind, pattern_piece, columns_piece, pay_line_of};
 ghost use Rattle.vp_card.specs.Reading.{rank_set_of};
 ghost use Rattle.vp_pay.specs.declared.pattern.Pattern.TheVariants.{FiveKind, Pair};
 

@@ -1,14 +1,15 @@
 //! Pay tables, read line by line.
 
-ghost use Rattle.std.specs.Prelude.{◌≡◌, ◌<◌, ◌≤◌, codes, ◌++◌, Some, Ok, IfOk, IfErr, IfSome, length};
-ghost use Rattle.vp_text.specs.Reading.{Gives, one_line};
-ghost use Rattle.vp_text.specs.Lines.{Feed};
-ghost use Rattle.vp_text.specs.Sections.{Text, Starts, Refuses, Leaves, IsAt, StandsBehind};
+ghost use Rattle.std.specs.Prelude.{◌≡◌, ◌<◌, ◌≤◌, codes, Some, Ok, IfOk, IfErr, IfSome, length};
+ghost use Rattle.vp_text.specs.Reading.{Gives};
+ghost use Rattle.vp_text.specs.Lines.{Feed, feed_of};
+ghost use Rattle.vp_text.specs.Sections.{Starts, Refuses, Leaves, IsAt, StandsBehind};
 ghost use Rattle.vp_text.specs.Pieces.{keyed};
 ghost use Rattle.vp_pay.specs.Reading.{name_of, deck_of, wild_of, one_to_five, next_line_of, has_name};
-ghost use Rattle.vp_pay.specs.Sections.{name_line, deck_line, wild_line, coins_line, pay_lines, table_at};
+ghost use Rattle.vp_pay.specs.Sections.{name_line, deck_line, wild_line, coins_line, pay_lines, table_at, value_of};
 ghost use Rattle.vp_pay.specs.Spelling.{table_text};
 ghost use Rattle.vp_pay.specs.Table.{IsTable};
+ghost use Rattle.vp_pay.specs.Written.{SpellingsDiffer, StandsIn};
 ghost use Rattle.vp_pay.specs.declared.table.PayTable.{PayTable};
 
 use crate::pay_line::{name, one_to_five, pay_line_of};
@@ -187,9 +188,21 @@ impl PayTable {
     {
         table_at(lines)
     }
+
+    /// The table that a text of at most 64 MiB begins with; what stands behind it is not read.
+    pub fn in_text(text: &[u8]) -> Option<PayTable>
+        requires { length text.now ≤ 67108864 }
+        // What is found keeps the rules, and its spelling stands at the front of the text.
+        ensures found { IfSome result (λ t. IsTable t × StandsIn table_text t text.now) }
+        // A table whose spelling stands at the front is found.
+        ensures only { (t : PayTable) → IsTable t → StandsIn table_text t text.now → result ≡ Some t }
+        ensures exact { result ≡ value_of (table_at (feed_of text.now)) }
+    {
+        PayTable::read(&mut Lines::new(text)).ok()
+    }
 }
 
 /// Different tables have different spellings, and no spelling begins another one.
 pub fn table_spellings_differ()
-    ensures { (a b : PayTable) (x y : Text) → IsTable a → IsTable b → table_text a ++ x ≡ table_text b ++ y → (a ≡ b) × (x ≡ y) }
+    ensures { SpellingsDiffer table_text IsTable }
 {}

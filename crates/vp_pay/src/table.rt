@@ -20,7 +20,7 @@ pub struct PayLine {
 #[derive(Debug, PartialEq, Eq, Drop)]
 pub struct PayTable {
     pub name: Name,
-    /// The number of cards, 52 or 53; the last of 53 is a joker.
+    /// The number of cards: the 52 natural cards, and none, one or two jokers.
     pub deck: u8,
     /// The rank that is wild besides the joker, 0 for twos to 12 for aces.
     pub wild: Option<u8>,

@@ -1,22 +1,28 @@
 //! Words of a pay table that are one value each.
 
-ghost use Rattle.std.specs.Prelude.{◌≡◌, option_map};
-ghost use Rattle.vp_pay.specs.Reading.{deck_of, wild_of, letter_of_rank, qualifier_of, plain_of};
+ghost use Rattle.std.specs.Prelude.{◌≡◌, ◌↔◌, IsTrue};
+ghost use Rattle.vp_card.specs.Cards.{IsDeck};
+ghost use Rattle.vp_pay.specs.Reading.{deck_of, is_deck, wild_of, letter_of_rank, qualifier_of, plain_of};
 
 use crate::{Pattern, Qualifier};
 use vp_card::rank_of;
+use vp_text::number;
 
+/// Whether a deck has so many cards.
+fn is_deck(cards: u8) -> bool
+    ensures value { result ≡ is_deck cards }
+    ensures deck { IsTrue result ↔ IsDeck cards }
+{
+    52 <= cards && cards <= 54
+}
+
+/// The number of cards of a deck that this word says.
 #[tactic(auto, unfolding(crate::specs::Reading::deck_of))]
 pub(crate) fn deck_of(text: &[u8]) -> Option<u8>
     ensures { result ≡ deck_of text.now }
 {
-    if text == b"52".as_slice() {
-        Some(52)
-    } else if text == b"53".as_slice() {
-        Some(53)
-    } else {
-        None
-    }
+    let cards = u8::try_from(number(text)?).ok()?;
+    if is_deck(cards) { Some(cards) } else { None }
 }
 
 fn letter_of_rank(text: &[u8]) -> Option<Option<u8>>

@@ -1,0 +1,10 @@
+-- Bets on pay tables.
+use Rattle.std.specs.Prelude.{ℕ, ◌≤◌}
+use Rattle.vp_pay.specs.Table.{IsTable}
+use Rattle.vp_pay.specs.declared.table.PayTable.{PayTable}
+
+-- a bet of at least one coin, that a valid pay table has a column for
+pub record IsBet (table : PayTable) (coin : ℕ) : Type 0 where
+  pub rules : IsTable table
+  pub some : 1 ≤ coin
+  pub within : coin ≤ table.coins
