@@ -3,4 +3,7 @@
 
 mod shape;
 
-pub use shape::Shape;
+pub use shape::{Shape, is_wild_card};
+
+#[cfg(test)]
+mod tests;

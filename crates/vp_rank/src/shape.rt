@@ -20,7 +20,7 @@ pub struct Shape {
 }
 
 impl Shape {
-    /// The shape of at most five cards. Besides jokers the cards of the wild rank are wild, 0 for twos to 12 for aces.
+    /// The shape of at most five cards. Besides the jokers the cards of the wild rank are wild, 0 for twos to 12 for aces.
     pub fn of(cards: &[Card], wild: Option<u8>) -> Shape
         requires { length cards.now ≤ 5 }
         ensures { IsShape wild cards.now result }
@@ -53,8 +53,7 @@ impl Shape {
         self.suits |= 1 << (number % 4);
     }
 
-    /// The windows of five ranks in a row that have all ranks of the cards, where no rank repeats: bit `w` is set exactly
-    /// where window `w` does. Window 0 is A2345, and window 9 is TJQKA.
+    /// The windows that the cards fit: bit `w` is set exactly where they fit window `w`.
     pub fn windows(&self) -> u16
         ensures below { result < 1024 }
         ensures bits { (k : ℕ) → k < 10 → bit_at result k ≡ bit_of (fits_window k (count_of self.now)) }
@@ -68,8 +67,10 @@ impl Shape {
         windows
     }
 
+    /// Whether no rank of the cards that are not wild repeats, and the window has all of these ranks. A window is five ranks
+    /// in a row: window 0 is A2345, window 1 is 23456, and so on to window 9, which is TJQKA.
     #[tactic(auto, unfolding(crate::specs::Bounded::all_below, crate::specs::Counts::fits_window))]
-    fn fits(&self, window: u8) -> bool
+    pub fn fits(&self, window: u8) -> bool
         requires { window < 10 }
         ensures { result ≡ fits_window window (count_of self.now) }
     {
@@ -88,8 +89,9 @@ impl Shape {
     }
 }
 
+/// Whether a card is wild: a joker, or a card of the wild rank where there is one, 0 for twos to 12 for aces.
 #[tactic(auto, unfolding(crate::specs::Wilds::is_wild))]
-fn is_wild_card(card: Card, wild: Option<u8>) -> bool
+pub fn is_wild_card(card: Card, wild: Option<u8>) -> bool
     ensures { result ≡ is_wild wild card }
 {
     let number = card.number();
@@ -106,28 +108,5 @@ fn in_a_window(window: u8, rank: u8) -> bool
         rank == 12 || rank < 4
     } else {
         window - 1 <= rank && rank < window + 4
-    }
-}
-
-#[cfg(test)]
-mod tests {
-    use super::*;
-    use std::test::Fail;
-
-    #[test]
-    fn shape_of_a_hand(rt: HostRuntime) -> Result<(), Fail> {
-        // 2d wild, 3c, 4h, 5h and the joker
-        let mut cards = [Card::default(); 5];
-        for (card, number) in cards.iter_mut().zip([1, 4, 10, 14, 52]) {
-            *card = Card::new(number).ok_or("card")?;
-        }
-        let shape = Shape::of(&cards, Some(0));
-        assert_eq!(rt; shape.wilds, 2);
-        assert_eq!(rt; shape.counts, [0, 1, 1, 1, 0, 0, 0, 0, 0, 0, 0, 0, 0]);
-        assert_eq!(rt; shape.suits, 0b0101);
-        assert_eq!(rt; shape.greatest(), 1);
-        // A2345, 23456 and 34567
-        assert_eq!(rt; shape.windows(), 0b111);
-        Ok(())
     }
 }
