@@ -16,3 +16,5 @@ pub mod TurnedDraws
 pub mod Cover
 pub mod Order
 pub mod CarriedBack
+pub mod CardHeaps
+pub mod Runs

@@ -10,11 +10,11 @@ use Rattle.vp_sets.specs.Index.{set_index}
 use Rattle.vp_sets.proofs.Decks.{length-deck, in_deck-deck}
 use Rattle.vp_suit.specs.Turns.{turn}
 use Rattle.vp_suit.specs.Images.{is_least}
-use Rattle.vp_suit.specs.Heaps.{heap, falls}
+use Rattle.vp_suit.specs.Heaps.{heap, suit_heaps}
 use Rattle.vp_suit.specs.Classes.{IsDeal, image_indexes, is_representative, least_turn, representative, weight}
 use Rattle.vp_suit.proofs.Below.{below, below-same}
 use Rattle.vp_suit.proofs.Group.{product, product_inside, inverse, inverse_inside, origin, origin_is}
-use Rattle.vp_suit.proofs.Cards.{turn_joined, turn_back, turn-rising}
+use Rattle.vp_suit.proofs.Cards.{turn_joined, turn_back, turn_first, turn-rising}
 use Rattle.vp_suit.proofs.Members.{Value, has_value, value_of, least_at, least_from, least_of, count_different}
 use Rattle.vp_suit.proofs.Deals.{deal, deal_at, deal_rises, turned_deal, index_small}
 use Rattle.vp_suit.proofs.Score.{score, jokers, jokers_turned, heap_turned}
@@ -23,7 +23,7 @@ use Rattle.vp_suit.proofs.Weights.{run, run_tells, same_images, images_by, diffe
 
 -- ---- the least turn
 
-get_or-deck : (n i : ℕ) → i < n → get_or (deck n) i 0 ≡ i
+pub get_or-deck : (n i : ℕ) → i < n → get_or (deck n) i 0 ≡ i
 unfolding deck
 get_or-deck zero i l = absurd (omega arith)
 get_or-deck (suc n) i l = elim (cases_eq i n) [
@@ -204,22 +204,15 @@ weight_is n cards big d stands =
     (λ i j li lj. images_tell n cards i j big d f li lj) (in_deck-deck 24)
 
 -- the same, of heaps that were reckoned
-pub weight_at : (cards heaps : List ℕ) (a b c : Bool) → IsDeal 53 cards → is_representative cards ≡ true
-    → heaps ≡ heap 0 cards ∷ heap 1 cards ∷ heap 2 cards ∷ heap 3 cards ∷ [] → (get_or heaps 0 0 == get_or heaps 1 0) ≡ a → (get_or heaps 1 0 == get_or heaps 2 0) ≡ b → (get_or heaps 2 0 == get_or heaps 3 0) ≡ c
+pub weight_at : (cards heaps : List ℕ) (a b c : Bool) → IsDeal 54 cards → is_representative cards ≡ true
+    → heaps ≡ suit_heaps cards → (get_or heaps 0 0 == get_or heaps 1 0) ≡ a → (get_or heaps 1 0 == get_or heaps 2 0) ≡ b → (get_or heaps 2 0 == get_or heaps 3 0) ≡ c
     → weight cards ≡ images_by a b c
+unfolding suit_heaps
 weight_at cards heaps a b c d stands e p q r =
     let p' : (heap 0 cards == heap 1 cards) ≡ a = rw e at p in
     let q' : (heap 1 cards == heap 2 cards) ≡ b = rw e at q in
     let r' : (heap 2 cards == heap 3 cards) ≡ c = rw e at r in
-    weight_is 53 cards (lit≤ tt) d stands ∙ (rw (p', q', r') refl)
-
--- the test of the heaps that were reckoned
-pub stands_at : (cards heaps : List ℕ) (fall : Bool) → IsDeal 53 cards → heaps ≡ heap 0 cards ∷ heap 1 cards ∷ heap 2 cards ∷ heap 3 cards ∷ []
-    → fall ≡ (leb (get_or heaps 1 0) (get_or heaps 0 0) && leb (get_or heaps 2 0) (get_or heaps 1 0) && leb (get_or heaps 3 0) (get_or heaps 2 0)) → fall ≡ is_representative cards
-unfolding falls
-stands_at cards heaps fall d e h =
-    let h' : fall ≡ falls cards = rw e at h in
-    h' ∙ falls_tell 53 cards (lit≤ tt) d
+    weight_is 54 cards (lit≤ tt) d stands ∙ (rw (p', q', r') refl)
 
 -- a deal and its representative have one weight
 pub representative_weighs : (n : ℕ) (cards : List ℕ) → 52 ≤ n → IsDeal n cards → weight (representative cards) ≡ weight cards
@@ -249,3 +242,7 @@ found cards image t r e l before hit =
     let same : least_turn cards ≡ t = least_turn_is cards t l r before hit' in
     let is : image ≡ representative cards = e ∙ ap (λ u. turn u cards) (sym same) in
     record { image_is = is; turn_is = sym same; least = λ s k. subst (λ (x : List ℕ). set_index x ≤ set_index (turn s cards)) (sym is) ((represented cards r).least s k) }
+
+-- the first turn gives a representative itself
+pub found_own : (cards : List ℕ) → IsRising cards → is_representative cards ≡ true → Found cards cards 0
+found_own cards r stands = found cards cards 0 r (sym (turn_first cards r)) (omega arith) (λ s l. absurd (omega arith)) stands

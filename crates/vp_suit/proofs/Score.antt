@@ -113,11 +113,11 @@ unfolding heap joined
 heap-joined x [] = refl
 heap-joined x (c ∷ cards) = omega (arith, heap-place x c (joined cards []), heap-joined x cards)
 
-card_own : (x c : ℕ) → c < 52 → c % 4 ≡ x → card_heap x c ≡ 2 ^ (4 * (c / 4))
+pub card_own : (x c : ℕ) → c < 52 → c % 4 ≡ x → card_heap x c ≡ 2 ^ (4 * (c / 4))
 unfolding card_heap
 card_own x c l e = rw (lt-ltb c 52 l, eq-eqb (c % 4) x e) refl
 
-card_other : (x c : ℕ) → (c % 4 ≡ x → ⊥) → card_heap x c ≡ 0
+pub card_other : (x c : ℕ) → (c % 4 ≡ x → ⊥) → card_heap x c ≡ 0
 unfolding card_heap
 card_other x c d = rw (ne_eqb (c % 4) x d) (none (nat_lt c 52))
   where
@@ -125,7 +125,7 @@ card_other x c d = rw (ne_eqb (c % 4) x d) (none (nat_lt c 52))
     none true = refl
     none false = refl
 
-card_joker : (x c : ℕ) → 52 ≤ c → card_heap x c ≡ 0
+pub card_joker : (x c : ℕ) → 52 ≤ c → card_heap x c ≡ 0
 unfolding card_heap
 card_joker x c l = rw (le-ltb c 52 l) refl
 
@@ -246,15 +246,3 @@ heap-none x = refl
 pub heap-cons : (x c : ℕ) (s : List ℕ) → heap x (c ∷ s) ≡ card_heap x c + heap x s
 unfolding heap
 heap-cons x c s = refl
-
--- a natural card of the suit adds a power of 16 that fits
-pub card_heap_in : (x c : ℕ) → c < 52 → c % 4 ≡ x → (1 * 2 ^ (4 * (c / 4)) % 18446744073709551616 ≡ card_heap x c) × (1 * 2 ^ (4 * (c / 4)) % 18446744073709551616 ≤ 281474976710656)
-card_heap_in x c l e =
-    let few : 4 * (c / 4) ≤ 48 = omega arith in
-    let small : 2 ^ (4 * (c / 4)) ≤ 2 ^ 48 = pow-le-pow_right (lit< tt) few in
-    let same : 1 * 2 ^ (4 * (c / 4)) % 18446744073709551616 ≡ 2 ^ (4 * (c / 4)) = omega arith in
-    (same ∙ sym (card_own x c l e), omega arith)
-
-pub card_heap_out : (x c : ℕ) → (c % 4 ≡ x → ⊥) ⊎ (52 ≤ c) → 0 ≡ card_heap x c
-card_heap_out x c (inl d) = sym (card_other x c d)
-card_heap_out x c (inr l) = sym (card_joker x c l)

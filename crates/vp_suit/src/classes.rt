@@ -1,10 +1,10 @@
 //! The classes of all deals from a deck, by their representatives.
 
-ghost use Rattle.std.specs.Prelude.{◌≡◌, ◌⊎◌, ◌++◌, [], length, IfSome, IfNone, option_map, option_to_list};
+ghost use Rattle.std.specs.Prelude.{◌≡◌, ◌≤◌, ◌++◌, [], length, IfSome, IfNone, option_map, option_to_list};
+ghost use Rattle.vp_card.specs.Cards.{IsDeck};
 ghost use Rattle.vp_suit.specs.Classes.{representatives, weight};
 
 use crate::Class;
-use crate::heaps::{stands, weight_of};
 use crate::walk::Deals;
 use std::marker::Model;
 use vp_sets::hand_of;
@@ -27,7 +27,7 @@ impl Model for Classes {
 impl Classes {
     /// All classes of the deals from a deck of `n` cards.
     pub fn new(n: u8) -> Classes
-        requires { (n ≡ 52) ⊎ (n ≡ 53) }
+        requires { IsDeck n }
         ensures { result ≡ representatives n }
     {
         Classes {
@@ -41,11 +41,11 @@ impl Classes {
         ensures end { IfNone result (self.old ≡ []) }
         ensures weight { IfSome result (λ class. class.weight ≡ weight class.hand) }
     {
-        while let Some(cards) = self.deals.next() {
-            if stands(&cards) {
+        while let Some(deal) = self.deals.next() {
+            if deal.stands() {
                 return Some(Class {
-                    hand: hand_of(&cards),
-                    weight: weight_of(&cards),
+                    hand: hand_of(&deal.cards),
+                    weight: deal.weight(),
                 });
             }
         }
@@ -55,7 +55,7 @@ impl Classes {
 
 /// The number of classes of the deals from a deck of `n` cards.
 pub fn class_count(n: u8) -> u32
-    requires { (n ≡ 52) ⊎ (n ≡ 53) }
+    requires { IsDeck n }
     ensures { result ≡ length (representatives n) }
 {
     let mut classes = Classes::new(n);

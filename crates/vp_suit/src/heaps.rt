@@ -1,72 +1,101 @@
-//! The fast test of representatives: each suit's cards as one number.
+//! Each suit's cards as one number, its heap, by which suits are compared.
 
-ghost use Rattle.std.specs.Prelude.{◌≡◌, ◌*◌, ◌^◌, ◌<◌, ◌≤◌, ◌&&◌, nat_le, true, [], ◌∷◌};
-ghost use Rattle.vp_suit.specs.Classes.{IsDeal, is_representative, weight};
-ghost use Rattle.vp_suit.specs.Heaps.{card_heap, heap, falls};
+ghost use Rattle.std.specs.Prelude.{◌≡◌, ◌+◌, ◌^◌, ◌<◌, ◌≤◌, ℕ, List, ◌∷◌, drop, false, nat_lt, slice_index, true};
+ghost use Rattle.vp_suit.specs.Classes.{IsDeal, is_representative};
+ghost use Rattle.vp_suit.specs.Heaps.{card_heap, falls, heap, jumps, suit_heaps};
 
-/// Whether a deal is the representative of its class.
-pub(crate) fn stands(cards: &[u8; 5]) -> bool
-    requires { IsDeal 53 cards.now }
-    ensures { result ≡ is_representative cards.now }
-{
-    let [clubs, diamonds, hearts, spades] = heaps(cards);
-    fall(clubs, diamonds, hearts, spades)
-}
+use crate::card_heaps::CARD_HEAPS;
 
-fn fall(a: u64, b: u64, c: u64, d: u64) -> bool
-    ensures { result ≡ (nat_le b a && nat_le c b && nat_le d c) }
-{
-    b <= a && c <= b && d <= c
-}
-
-/// The weight of the class of a representative: the heaps fall, and equal ones give equal images.
-pub(crate) fn weight_of(cards: &[u8; 5]) -> u8
-    requires deal { IsDeal 53 cards.now }
-    requires representative { is_representative cards.now ≡ true }
-    ensures { result ≡ weight cards.now }
-{
-    let [clubs, diamonds, hearts, spades] = heaps(cards);
-    match (clubs == diamonds, diamonds == hearts, hearts == spades) {
-        (true, true, true) => 1,
-        (true, true, false) => 4,
-        (false, true, true) => 4,
-        (true, false, true) => 6,
-        (true, false, false) => 12,
-        (false, true, false) => 12,
-        (false, false, true) => 12,
-        (false, false, false) => 24,
-    }
-}
-
-/// The heaps of clubs, diamonds, hearts and spades.
-fn heaps(cards: &[u8; 5]) -> [u64; 4]
-    ensures { result ≡ heap 0 cards.now ∷ heap 1 cards.now ∷ heap 2 cards.now ∷ heap 3 cards.now ∷ [] }
+/// The heaps of clubs, diamonds, hearts and spades of the cards but the lowest.
+#[tactic(auto, unfolding(crate::specs::Heaps::suit_heaps))]
+pub(crate) fn heaps_above(cards: &[u8; 5]) -> [u64; 4]
+    requires { IsDeal 54 cards.now }
+    ensures { result ≡ suit_heaps (drop 1 cards.now) }
 {
     [
-        heap(0, cards),
-        heap(1, cards),
-        heap(2, cards),
-        heap(3, cards),
+        heap_above(0, cards),
+        heap_above(1, cards),
+        heap_above(2, cards),
+        heap_above(3, cards),
     ]
 }
 
-fn heap(suit: u8, cards: &[u8; 5]) -> u64
-    ensures { result ≡ heap suit cards.now }
+/// The heap of a suit of the cards but the lowest.
+fn heap_above(suit: u8, cards: &[u8; 5]) -> u64
+    requires suit { suit < 4 }
+    requires deal { IsDeal 54 cards.now }
+    ensures { result ≡ heap suit (drop 1 cards.now) }
 {
-    let mut sum = 0;
-    for card in cards {
-        sum += card_heap(suit, *card);
-    }
-    sum
+    let [_, b, c, d, e] = *cards;
+    card_heap(suit, b) + card_heap(suit, c) + card_heap(suit, d) + card_heap(suit, e)
 }
 
+/// The heaps of a deal, from those of the cards but the lowest.
+#[tactic(auto, unfolding(crate::specs::Heaps::suit_heaps))]
+pub(crate) fn heaps_with(above: &[u64; 4], cards: &[u8; 5]) -> [u64; 4]
+    requires deal { IsDeal 54 cards.now }
+    requires above { above.now ≡ suit_heaps (drop 1 cards.now) }
+    ensures { result ≡ suit_heaps cards.now }
+{
+    [
+        heap_with(0, above[0], cards),
+        heap_with(1, above[1], cards),
+        heap_with(2, above[2], cards),
+        heap_with(3, above[3], cards),
+    ]
+}
+
+fn heap_with(suit: u8, above: u64, cards: &[u8; 5]) -> u64
+    requires suit { suit < 4 }
+    requires deal { IsDeal 54 cards.now }
+    requires above { above ≡ heap suit (drop 1 cards.now) }
+    ensures { result ≡ heap suit cards.now }
+{
+    above + card_heap(suit, cards[0])
+}
+
+/// Whether no heap is greater than the one before it.
+#[tactic(auto, unfolding(crate::specs::Heaps::suit_heaps, crate::specs::Heaps::falls))]
+pub(crate) fn fall(heaps: &[u64; 4]) -> bool
+    ensures { (cards : List ℕ) → heaps.now ≡ suit_heaps cards → result ≡ falls cards }
+{
+    let [clubs, diamonds, hearts, spades] = *heaps;
+    diamonds <= clubs && hearts <= diamonds && spades <= hearts
+}
+
+/// Whether no lowest card makes the cards but the lowest a representative: some heap is greater than the one before it
+/// by more than a card below the next lowest adds.
+pub(crate) fn none_stands(above: &[u64; 4], cards: &[u8; 5]) -> bool
+    requires deal { IsDeal 54 cards.now }
+    requires above { above.now ≡ suit_heaps (drop 1 cards.now) }
+    ensures { result ≡ true → (lowest : ℕ) → lowest < slice_index cards.now 1 → is_representative (lowest ∷ drop 1 cards.now) ≡ false }
+{
+    jump(above, 1 << (4 * (cards[1] / 4)))
+}
+
+/// Whether some heap is greater than the one before it by more than `most`.
+#[tactic(auto, unfolding(crate::specs::Heaps::suit_heaps, crate::specs::Heaps::jumps))]
+fn jump(heaps: &[u64; 4], most: u64) -> bool
+    ensures { (cards : List ℕ) → heaps.now ≡ suit_heaps cards → result ≡ jumps most cards }
+{
+    let [clubs, diamonds, hearts, spades] = *heaps;
+    is_jump(clubs, diamonds, most)
+        || is_jump(diamonds, hearts, most)
+        || is_jump(hearts, spades, most)
+}
+
+fn is_jump(before: u64, heap: u64, most: u64) -> bool
+    ensures { result ≡ nat_lt (before + most) heap }
+{
+    most < heap.saturating_sub(before)
+}
+
+/// What a card adds to the heap of a suit.
 fn card_heap(suit: u8, card: u8) -> u64
+    requires suit { suit < 4 }
+    requires card { card < 54 }
     ensures value { result ≡ card_heap suit card }
     ensures small { result ≤ 2 ^ 48 }
 {
-    if card < 52 && card % 4 == suit {
-        1 << (4 * (card / 4))
-    } else {
-        0
-    }
+    CARD_HEAPS[card as usize][suit as usize]
 }

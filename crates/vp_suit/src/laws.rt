@@ -38,6 +38,8 @@ pub fn representative_laws()
     ensures own { (n : ℕ) (cards : List ℕ) → 52 ≤ n → IsDeal n cards → is_representative cards ≡ true → representative cards ≡ cards }
     // A representative stands for as many deals as it weighs.
     ensures weight { (n : ℕ) (cards : List ℕ) → 52 ≤ n → IsDeal n cards → is_representative cards ≡ true → count_by (λ other. set_index (representative other) == set_index cards) (combos 5 (deck n)) ≡ weight cards }
+    // These are at least one, and at most one for each turn.
+    ensures weighs { (cards : List ℕ) → (1 ≤ weight cards) × (weight cards ≤ 24) }
 {}
 
 /// A law, for proofs: a turned deal is a deal of the same class.

@@ -6,7 +6,7 @@ ghost use Rattle.vp_sets.specs.Index.{set_index};
 ghost use Rattle.vp_suit.specs.Turns.{turn};
 ghost use Rattle.vp_suit.specs.Classes.{is_representative, least_turn, representative, weight};
 
-use crate::heaps::{stands, weight_of};
+use crate::deal::Deal;
 use crate::{SuitTurn, turn};
 use vp_card::Hand;
 
@@ -21,6 +21,18 @@ pub fn least_image(hand: &Hand) -> (Hand, SuitTurn)
     ensures first { (t : ℕ) → t < result.1 → turn t hand.now ≢ result.0 }
     ensures hand { IsHand hand.now }
 {
+    if is_representative(hand) {
+        return (*hand, SuitTurn::first());
+    }
+    least_of_images(hand)
+}
+
+/// The same, by a search through the turns.
+fn least_of_images(hand: &Hand) -> (Hand, SuitTurn)
+    ensures representative { result.0 ≡ representative hand.now }
+    ensures turn { result.1 ≡ least_turn hand.now }
+    ensures hand { IsHand hand.now }
+{
     let mut t = SuitTurn::first();
     let mut image = turn(t, hand);
     while !is_representative(&image) {
@@ -30,10 +42,12 @@ pub fn least_image(hand: &Hand) -> (Hand, SuitTurn)
     (image, t)
 }
 
-fn is_representative(hand: &Hand) -> bool
-    ensures { result ≡ is_representative hand.now }
+/// Whether the hand is the representative of its class.
+pub fn is_representative(hand: &Hand) -> bool
+    ensures value { result ≡ is_representative hand.now }
+    ensures hand { IsHand hand.now }
 {
-    stands(&hand.numbers())
+    Deal::of(&hand.numbers()).stands()
 }
 
 /// The weight of the hand's class: the number of its different images.
@@ -41,5 +55,5 @@ pub fn weight(hand: &Hand) -> u8
     ensures { result ≡ weight hand.now }
 {
     let (image, _) = least_image(hand);
-    weight_of(&image.numbers())
+    Deal::of(&image.numbers()).weight()
 }

@@ -82,9 +82,9 @@ impl SuitTurn {
 
     /// The number of the card that the turn makes of the card with this number.
     pub(crate) fn of_card(self, card: u8) -> u8
-        requires { card < 53 }
+        requires { card < 54 }
         ensures value { result ≡ turned self card }
-        ensures below { result < 53 }
+        ensures below { result < 54 }
     {
         if card < 52 {
             4 * (card / 4) + self.of_suit(card % 4)

@@ -31,7 +31,7 @@ fn cards(t: SuitTurn, hand: &Hand) -> [Card; 5]
 }
 
 fn card(t: SuitTurn, number: u8) -> Card
-    requires { number < 53 }
+    requires { number < 54 }
     ensures { result ≡ turned t number }
 {
     Card::new(t.of_card(number)).unwrap()

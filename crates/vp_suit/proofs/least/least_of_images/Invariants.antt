@@ -1,7 +1,7 @@
 use Rattle.std.proofs.Common.{◌≡◌, ℕ, ◌<◌, ◌-◌, false}
 use Rattle.vp_suit.specs.Turns.{turn}
 use Rattle.vp_suit.specs.Classes.{is_representative}
-use Rattle.vp_suit.proofs.least.least_image.Given as goal
+use Rattle.vp_suit.proofs.least.least_of_images.Given as goal
 
 abbrev pub invariant-loop-image : goal.invariant-loop-image
 invariant-loop-image l = record {
