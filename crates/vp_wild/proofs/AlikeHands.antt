@@ -46,7 +46,7 @@ alike_pay t coin a b five also alike =
     (fun_ext (alike_hits t.wild a b five also alike))
 
 -- a count of natural cards is a count of all cards with a narrower test
-count_naturals : (p : ℕ → Bool) (w : Option ℕ) (cards : List ℕ) → count_by p (naturals w cards) ≡ count_by (λ c. not (is_wild w c) && p c) cards
+pub count_naturals : (p : ℕ → Bool) (w : Option ℕ) (cards : List ℕ) → count_by p (naturals w cards) ≡ count_by (λ c. not (is_wild w c) && p c) cards
 count_naturals p w [] = refl
 count_naturals p w (c ∷ cs) =
     let before : count_by p (naturals w cs) ≡ count_by (λ c. not (is_wild w c) && p c) cs = count_naturals p w cs in
@@ -62,7 +62,8 @@ count_naturals p w (c ∷ cs) =
 same_count : (p : ℕ → Bool) (a b : List ℕ) → IsPermutation a b → count_by p a ≡ count_by p b
 same_count p a b moved = sym (sum_by-IsPermutation (λ c. tally (p c)) a b moved)
 
-same_naturals : (p : ℕ → Bool) (w : Option ℕ) (a b : List ℕ) → IsPermutation a b → count_by p (naturals w a) ≡ count_by p (naturals w b)
+-- the order plays no part in a count of natural cards
+pub same_naturals : (p : ℕ → Bool) (w : Option ℕ) (a b : List ℕ) → IsPermutation a b → count_by p (naturals w a) ≡ count_by p (naturals w b)
 same_naturals p w a b moved =
     count_naturals p w a ∙ same_count (λ c. not (is_wild w c) && p c) a b moved ∙ sym (count_naturals p w b)
 

@@ -8,4 +8,5 @@ pub mod TurnedHands
 pub mod SuitTurns
 pub mod Raised
 pub mod SuitBits
+pub mod RankWays
 pub mod KeptPlaces

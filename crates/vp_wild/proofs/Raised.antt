@@ -33,26 +33,26 @@ unfolding raised
 raised_rises j [] h = tt
 raised_rises j (c ∷ s) h = (raised_above (rank c + j) j c s h.0 (omega arith), raised_rises (suc j) s h.1)
 
-raised_below : (j : ℕ) (s : List ℕ) → Below 53 s → j + length s ≤ 5 → Below 18 (raised j s)
+raised_below : (j : ℕ) (s : List ℕ) → Below 54 s → j + length s ≤ 5 → Below 18 (raised j s)
 unfolding raised
 raised_below j [] h l = tt
-raised_below j (c ∷ s) h l = (let m : c < 53 = h.0 in omega arith, raised_below (suc j) s h.1 (omega arith))
+raised_below j (c ∷ s) h l = (let m : c < 54 = h.0 in omega arith, raised_below (suc j) s h.1 (omega arith))
 
 choose-18-5 : choose 18 5 ≡ 8568
 choose-18-5 = sym (ways_are 18 5 (lit≤ tt) (lit≤ tt))
 
 -- the index of the raised ranks of five cards
-pub ranks_below : (s : List ℕ) → IsSet 53 s → length s ≡ 5 → set_index (raised 0 s) < 8568
+pub ranks_below : (s : List ℕ) → IsSet 54 s → length s ≡ 5 → set_index (raised 0 s) < 8568
 ranks_below s h five =
-    let low : index_from 0 (raised 0 s) < choose 18 (length (raised 0 s)) = index_lt 18 (raised 0 s) (raised_rises 0 s (set_rises 53 s h)) (raised_below 0 s (set_below 53 s h) (omega arith)) in
+    let low : index_from 0 (raised 0 s) < choose 18 (length (raised 0 s)) = index_lt 18 (raised 0 s) (raised_rises 0 s (set_rises 54 s h)) (raised_below 0 s (set_below 54 s h) (omega arith)) in
     let many : choose 18 (length (raised 0 s)) ≡ 8568 = ap (choose 18) (raised_count 0 s ∙ five) ∙ choose-18-5 in
     omega (arith, index_is (raised 0 s))
 
-at_raised : (s : List ℕ) → IsSet 53 s → length s ≡ 5 → get_or (colex 5 18) (set_index (raised 0 s)) [] ≡ raised 0 s
+at_raised : (s : List ℕ) → IsSet 54 s → length s ≡ 5 → get_or (colex 5 18) (set_index (raised 0 s)) [] ≡ raised 0 s
 at_raised s h five =
     ap (λ i. get_or (colex 5 18) i []) (index_is (raised 0 s))
     ∙ ap (λ k. get_or (colex k 18) (index_from 0 (raised 0 s)) []) (sym (raised_count 0 s ∙ five))
-    ∙ at_index 18 (raised 0 s) (raised_rises 0 s (set_rises 53 s h)) (raised_below 0 s (set_below 53 s h) (omega arith))
+    ∙ at_index 18 (raised 0 s) (raised_rises 0 s (set_rises 54 s h)) (raised_below 0 s (set_below 54 s h) (omega arith))
 
 -- two lists of cards have the same ranks
 abbrev SameRanks : List ℕ → List ℕ → Type 0
@@ -70,7 +70,7 @@ same_from j (c ∷ s) (d ∷ t) l e =
     let first : rank c + j ≡ rank d + j = ap (λ x. get_or x 0 0) whole in
     (omega arith, same_from (suc j) s t (omega arith) (ap (drop 1) whole))
 
-pub ranks_told : (s t : List ℕ) → IsSet 53 s → IsSet 53 t → length s ≡ 5 → length t ≡ 5 → set_index (raised 0 s) ≡ set_index (raised 0 t) → SameRanks s t
+pub ranks_told : (s t : List ℕ) → IsSet 54 s → IsSet 54 t → length s ≡ 5 → length t ≡ 5 → set_index (raised 0 s) ≡ set_index (raised 0 t) → SameRanks s t
 ranks_told s t h g five also e =
     same_from 0 s t (five ∙ sym also) (sym (at_raised s h five) ∙ ap (λ i. get_or (colex 5 18) i []) e ∙ at_raised t g also)
 
@@ -128,7 +128,7 @@ ranks_row s p q r t u five a b c d e =
     omega (arith, five_terms (get_or s 0 0) (get_or s 1 0) (get_or s 2 0) (get_or s 3 0) (get_or s 4 0))
 
 -- no term of the index is large
-pub term_small : (s : List ℕ) (i n k r : ℕ) → IsSet 53 s → length s ≡ 5 → i < 5 → k ≤ 5 → n ≡ get_or s i 0 / 4 + i → r ≡ choose n k → r ≤ 459165024
+pub term_small : (s : List ℕ) (i n k r : ℕ) → IsSet 54 s → length s ≡ 5 → i < 5 → k ≤ 5 → n ≡ get_or s i 0 / 4 + i → r ≡ choose n k → r ≤ 459165024
 term_small s i n k r h five l m is e =
-    let low : get_or s i 0 < 53 = below_at 53 s i (set_below 53 s h) (omega arith) in
+    let low : get_or s i 0 < 54 = below_at 54 s i (set_below 54 s h) (omega arith) in
     subst (λ x. x ≤ 459165024) (sym e) (choose_small n k (omega arith) m)

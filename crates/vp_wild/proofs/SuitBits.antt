@@ -1,8 +1,8 @@
 -- The bits of the suits of some cards.
-use Rattle.std.proofs.Common.{◌≡◌, ℕ, zero, suc, ◌+◌, ◌^◌, ◌%◌, ◌*◌, ◌<◌, true, false, cond, ltb, eqb, List, [], ◌∷◌, length, get_or, set, refl, ap, sym, subst, ◌∙◌, inl, inr, arith, Option, bit_or}
+use Rattle.std.proofs.Common.{◌≡◌, ℕ, zero, suc, ◌+◌, ◌^◌, ◌%◌, ◌*◌, ◌<◌, true, false, cond, ltb, eqb, List, [], ◌∷◌, length, get_or, map, set, refl, ap, sym, subst, ◌∙◌, inl, inr, arith, Option, bit_or}
 use Rattle.std.specs.Int.{bit_at}
 use Rattle.std.specs.Int.Bits.{or_zero_l, or_zero_r}
-use Rattle.std.proofs.lemmas.List.{get_or-set_same, get_or-set_other}
+use Rattle.std.proofs.lemmas.List.{get_or-map, get_or-set_same, get_or-set_other}
 use Rattle.std.proofs.lemmas.Nat.Bits.{bit_at-zero}
 use Rattle.std.proofs.lemmas.Bool.{cases_Bool, cases_eq, eq-eqb, ne_eqb, lt-ltb}
 use Rattle.vp_card.specs.Cards.{suit}
@@ -11,7 +11,13 @@ use Rattle.vp_rank.specs.Shapes.{IsSuitMask, bit_of}
 use Rattle.vp_rank.specs.Wilds.{is_wild, naturals}
 use Rattle.vp_rank.proofs.CountLemmas.{tally, count_by-cons, naturals_yes, naturals_no}
 use Rattle.vp_rank.proofs.Masks.{suit_below, suit_added}
-use Rattle.vp_sets.proofs.Colex.{Below}
+use Rattle.vp_sets.specs.Index.{IsSet}
+use Rattle.vp_sets.specs.Sets.{deck}
+use Rattle.vp_sets.proofs.Colex.{Below, set_below}
+use Rattle.vp_sets.proofs.Decks.{length-deck}
+use Rattle.vp_suit.proofs.Representatives.{get_or-deck}
+use Rattle.vp_wild.specs.ByCounts.{at_most_one_suit}
+use Rattle.vp_wild.specs.declared.places.TheConstants.{ONE_SUIT}
 use Rattle.vp_wild.specs.Places.{AreSuitBits, suit_bit, suits_by}
 use Rattle.vp_sets.proofs.FiveCards.{five_in_row}
 
@@ -69,7 +75,7 @@ mask_more mask c l is = record {
     low = omega arith
 
 -- the bits of some cards together are the mask of the suits of those that aren't wild
-pub suits_masked : (w : Option ℕ) (bits s : List ℕ) → AreSuitBits w bits → Below 53 s → IsSuitMask (suits_by bits s) (naturals w s)
+pub suits_masked : (w : Option ℕ) (bits s : List ℕ) → AreSuitBits w bits → Below 54 s → IsSuitMask (suits_by bits s) (naturals w s)
 suits_masked w bits [] are b = subst (λ m. IsSuitMask m []) (sym (suits-none bits)) (record { below = omega arith; bits = λ s l. bit_at-zero s })
 suits_masked w bits (c ∷ s) are b =
     let before : IsSuitMask (suits_by bits s) (naturals w s) = suits_masked w bits s are b.1 in
@@ -93,3 +99,16 @@ five_bits bits a b c d e =
 pub suits_row : (bits s : List ℕ) → length s ≡ 5
     → bit_or (bit_or (bit_or (bit_or (get_or bits (get_or s 4 0) 0) (get_or bits (get_or s 3 0) 0)) (get_or bits (get_or s 2 0) 0)) (get_or bits (get_or s 1 0) 0)) (get_or bits (get_or s 0 0) 0) ≡ suits_by bits s
 suits_row bits s five = five_bits bits (get_or s 0 0) (get_or s 1 0) (get_or s 2 0) (get_or s 3 0) (get_or s 4 0) ∙ sym (ap (suits_by bits) (five_in_row s five))
+
+-- the table of the sets of suits with at most one
+one_suits : ONE_SUIT ≡ map (λ mask. at_most_one_suit mask) (deck 16)
+unfolding deck
+one_suits = refl
+
+pub one_suit_is : (mask : ℕ) → mask < 16 → get_or ONE_SUIT mask false ≡ at_most_one_suit mask
+one_suit_is mask l =
+    ap (λ r. get_or r mask false) one_suits ∙ (get_or-map (λ m. at_most_one_suit m) (deck 16) mask 0 false (subst (λ n. mask < n) (sym (length-deck 16)) l) ∙ ap (λ m. at_most_one_suit m) (get_or-deck 16 mask l))
+
+-- the bits of a set of cards are a set of suits
+pub suits_small : (w : Option ℕ) (bits s : List ℕ) → AreSuitBits w bits → IsSet 54 s → suits_by bits s < 16
+suits_small w bits s are h = (suits_masked w bits s are (set_below 54 s h)).below

@@ -5,12 +5,15 @@ use Rattle.vp_card.specs.Cards.{rank, suit}
 use Rattle.vp_rank.specs.Counts.{one_suit}
 use Rattle.vp_rank.specs.Wilds.{is_wild, naturals}
 use Rattle.vp_sets.specs.Index.{set_index}
-use Rattle.vp_wild.specs.ByCounts.{at_most_one_suit}
 
 -- the ranks of rising cards, each raised by the number of cards before it, so that they rise; j cards stand before these
 unfoldable pub raised : ℕ → List ℕ → List ℕ
 raised j [] = []
 raised j (card ∷ cards) = (rank card + j) ∷ raised (suc j) cards
+
+-- how many places there are: two for each row of five ranks, the jokers' among them
+abbrev pub places : ℕ
+places = 17136
 
 -- the place of a hand: two for each row of ranks, of which the second is for hands whose natural cards have one suit
 unfoldable pub place_of : Option ℕ → List ℕ → ℕ
@@ -22,13 +25,9 @@ suit_bit wild card = if is_wild wild card then 0 else 2 ^ suit card
 
 -- the bits of all cards, by their numbers
 pub record AreSuitBits (wild : Option ℕ) (bits : List ℕ) : Type 0 where
-  pub told : (card : ℕ) → card < 53 → slice_index bits card ≡ suit_bit wild card
+  pub told : (card : ℕ) → card < 54 → slice_index bits card ≡ suit_bit wild card
 
 -- the bits of some cards together
 unfoldable pub suits_by : List ℕ → List ℕ → ℕ
 suits_by bits [] = 0
 suits_by bits (card ∷ cards) = bit_or (suits_by bits cards) (slice_index bits card)
-
--- the place of a hand, told by the bits
-unfoldable pub place_by : List ℕ → List ℕ → ℕ
-place_by bits hand = 2 * set_index (raised 0 hand) + (if at_most_one_suit (suits_by bits hand) then 1 else 0)

@@ -11,7 +11,7 @@ use std::marker::Brand;
 use std::process::Abort;
 use std::sync::ledger::{Blank, Ledger};
 use std::test::Fail;
-use tables::{deuces, every_pattern, hand_of, kickers, poker, table_of};
+use tables::{deuces, deuces_and_jokers, every_pattern, hand_of, jokers, kickers, poker, table_of};
 use vp_card::Hand;
 use vp_pay::{PayTable, Qualifier};
 
@@ -50,11 +50,20 @@ fn agreement<L: Ledger>(table: &PayTable, pool: &[u8; 12], blank: Blank) -> u32
 
 #[test]
 fn agrees_with_all_faces(rt: HostRuntime) -> Result<(), Fail> {
-    // The two and the joker are wild: 2c 3c 3d 3h Tc Jc Qc Kc Ac Ad As Jo.
-    let pool = [0, 4, 5, 6, 32, 36, 40, 44, 48, 49, 51, 52];
-    for pattern in every_pattern().ok_or("patterns")? {
-        let table = table_of(53, Some(0), &[(pattern, Qualifier::Either)]);
-        assert_eq!(rt; agreement::<Brand>(&table, &pool, Blank::new(1)), 792);
+    let cases = [
+        // One joker, and twos are wild: 2c 3c 3d 3h Tc Jc Qc Kc Ac Ad As Jo.
+        (53, Some(0), [0, 4, 5, 6, 32, 36, 40, 44, 48, 49, 51, 52]),
+        // Two jokers: 3c 3d 3h Tc Jc Qc Kc Ac Ad As Jo Jk.
+        (54, None, [4, 5, 6, 32, 36, 40, 44, 48, 49, 51, 52, 53]),
+        // Two jokers, and twos are wild: 2c 3c 3d 4c Tc Jc Qc Kc Ac Ad Jo Jk.
+        (54, Some(0), [0, 4, 5, 8, 32, 36, 40, 44, 48, 49, 52, 53]),
+    ];
+    for (deck, wild, pool) in cases {
+        for pattern in every_pattern().ok_or("patterns")? {
+            let table = table_of(deck, wild, &[(pattern, Qualifier::Either)]);
+            let same = agreement::<Brand>(&table, &pool, Blank::new(1));
+            assert_eq!(rt; same, 792, "{pattern:?} of {deck} cards");
+        }
     }
     Ok(())
 }
@@ -115,8 +124,7 @@ fn all_paid(rt: &impl Abort, table: &PayTable, hands: &[([u8; 5], u32)]) -> Resu
 
 #[test]
 fn pays_the_first_line(rt: HostRuntime) -> Result<(), Fail> {
-    let table = deuces().ok_or("table")?;
-    let hands = [
+    let wild_deuces = [
         // Ts Js Qs Ks As, a natural royal
         ([35, 39, 43, 47, 51], 2),
         // 2c 2d 2h 2s Ac, four deuces and an ace
@@ -136,18 +144,51 @@ fn pays_the_first_line(rt: HostRuntime) -> Result<(), Fail> {
         // 2c 2d 3c 8d Kh: no line
         ([0, 1, 4, 25, 46], 0),
     ];
-    all_paid(&rt, &table, &hands)
-}
-
-#[test]
-fn pays_for_kickers(rt: HostRuntime) -> Result<(), Fail> {
-    let table = kickers().ok_or("table")?;
+    all_paid(&rt, &deuces().ok_or("table")?, &wild_deuces)?;
     // Ac Ad Ah As with 2c, and with 5c; Kc Kd Kh Ks with Ac; Qc Qd Qh Qs with Kc
-    let hands = [
+    let four_of_a_kind = [
         ([0, 48, 49, 50, 51], 2),
         ([12, 48, 49, 50, 51], 12),
         ([44, 45, 46, 47, 48], 0),
         ([40, 41, 42, 43, 44], 22),
     ];
-    all_paid(&rt, &table, &hands)
+    all_paid(&rt, &kickers().ok_or("table")?, &four_of_a_kind)?;
+    let two_jokers = [
+        // Kc Kd Kh Jo Jk: five kings
+        ([44, 45, 46, 52, 53], 12),
+        // Tc Qc Ac Jo Jk: both jokers with an ace, before a wild royal
+        ([32, 40, 48, 52, 53], 22),
+        // Tc Jc Qc Jo Jk: a wild royal
+        ([32, 36, 40, 52, 53], 32),
+        // 5h 6h 9h Jo Jk: a straight flush
+        ([14, 18, 30, 52, 53], 42),
+        // 2c 2d 9h Jo Jk: four twos
+        ([0, 1, 30, 52, 53], 52),
+        // 2c 5d 9h Jo Jk: both jokers
+        ([0, 13, 30, 52, 53], 62),
+        // 2c 5d 9h Kd Jk: no line
+        ([0, 13, 30, 45, 53], 0),
+    ];
+    all_paid(&rt, &jokers().ok_or("table")?, &two_jokers)?;
+    let deuces_and_two_jokers = [
+        // 2c 2d 2h Jo Jk
+        ([0, 1, 2, 52, 53], 2),
+        // 2c 2d 7h Jo Jk
+        ([0, 1, 22, 52, 53], 12),
+        // 2c 7h 7s Jo Jk: five sevens
+        ([0, 22, 23, 52, 53], 22),
+        // 2c Ts As Jo Jk: a wild royal
+        ([0, 35, 51, 52, 53], 32),
+        // 2c 3s 7s Jo Jk: a straight flush
+        ([0, 7, 23, 52, 53], 42),
+        // 2c 3s 9s Jo Jk: a flush
+        ([0, 7, 31, 52, 53], 52),
+        // 2c 3s 9h Jo Jk: no line
+        ([0, 7, 30, 52, 53], 0),
+    ];
+    all_paid(
+        &rt,
+        &deuces_and_jokers().ok_or("table")?,
+        &deuces_and_two_jokers,
+    )
 }

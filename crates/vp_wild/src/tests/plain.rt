@@ -1,4 +1,4 @@
-//! A ranker that tries all 52 faces at each wild card, for hands with at most two.
+//! A ranker that tries all 52 faces at each wild card, for hands with at most three.
 
 use vp_card::RankSet;
 use vp_pay::{Pattern, PayLine, PayTable, Qualifier};
@@ -26,7 +26,7 @@ pub(crate) fn first_line(table: &PayTable, hand: [u8; 5]) -> Option<u8> {
 }
 
 fn is_wild(wild: Option<u8>, card: u8) -> bool {
-    card == 52 || wild == Some(card / 4)
+    card >= 52 || wild == Some(card / 4)
 }
 
 fn hits(line: &PayLine, wild: Option<u8>, hand: [u8; 5]) -> bool {
@@ -37,7 +37,13 @@ fn hits(line: &PayLine, wild: Option<u8>, hand: [u8; 5]) -> bool {
         Qualifier::Wild => wilds != 0,
     };
     let matches = match &line.pattern {
-        Pattern::Wilds(number, _) => wilds == usize::from(*number),
+        Pattern::Wilds(number, None) => wilds == usize::from(*number),
+        Pattern::Wilds(number, Some(ranks)) => {
+            wilds == usize::from(*number)
+                && hand
+                    .iter()
+                    .any(|card| !is_wild(wild, *card) && ranks.has(*card / 4))
+        }
         _ => some_faces(&line.pattern, wild, hand),
     };
     qualifies && matches
@@ -46,12 +52,29 @@ fn hits(line: &PayLine, wild: Option<u8>, hand: [u8; 5]) -> bool {
 fn some_faces(pattern: &Pattern, wild: Option<u8>, hand: [u8; 5]) -> bool {
     let first = hand.iter().position(|card| is_wild(wild, *card));
     let last = hand.iter().rposition(|card| is_wild(wild, *card));
+    let middle = wild_between(wild, &hand, first, last);
     let firsts = if first.is_some() { 52u8 } else { 1 };
+    let middles = if middle.is_some() { 52u8 } else { 1 };
     let lasts = if first == last { 1u8 } else { 52 };
-    (0..firsts).any(|one| (0..lasts).any(|two| meets(
+    (0..firsts).any(|one| (0..middles).any(|two| (0..lasts).any(|three| meets(
         pattern,
-        &placed(placed(hand, last, two), first, one),
-    )))
+        &placed(placed(placed(hand, last, three), middle, two), first, one),
+    ))))
+}
+
+/// The place of a wild card that is at neither of two places.
+fn wild_between(
+    wild: Option<u8>,
+    hand: &[u8; 5],
+    first: Option<usize>,
+    last: Option<usize>,
+) -> Option<usize> {
+    for (place, card) in hand.iter().enumerate() {
+        if is_wild(wild, *card) && Some(place) != first && Some(place) != last {
+            return Some(place);
+        }
+    }
+    None
 }
 
 /// The hand with a face at a place, if there is one.

@@ -49,7 +49,7 @@ pub(crate) fn table_of(deck: u8, wild: Option<u8>, lines: &[(Pattern, Qualifier)
 }
 
 /// Each pattern, those with sets of ranks at a narrow set.
-pub(crate) fn every_pattern() -> Option<[Pattern; 16]> {
+pub(crate) fn every_pattern() -> Option<[Pattern; 18]> {
     let any = RankSet::read(b"any")?;
     let some = RankSet::read(b"3JA")?;
     let other = RankSet::read(b"TQA")?;
@@ -60,6 +60,8 @@ pub(crate) fn every_pattern() -> Option<[Pattern; 16]> {
         Pattern::FiveKind(some),
         Pattern::Wilds(1, None),
         Pattern::Wilds(2, None),
+        Pattern::Wilds(2, Some(some)),
+        Pattern::Wilds(3, None),
         Pattern::Quads(any, None),
         Pattern::Quads(some, None),
         Pattern::Quads(some, Some(other)),
@@ -126,6 +128,43 @@ pub(crate) fn kickers() -> Option<PayTable> {
             (Pattern::Quads(aces, Some(low)), Qualifier::Either),
             (Pattern::Quads(aces, None), Qualifier::Either),
             (Pattern::Quads(any, Some(kings)), Qualifier::Either),
+        ],
+    ))
+}
+
+/// Two jokers and no wild rank: natural royals, five of a kind, both jokers with an ace, wild royals, straight flushes,
+/// quads, both jokers.
+pub(crate) fn jokers() -> Option<PayTable> {
+    let any = RankSet::read(b"any")?;
+    let aces = RankSet::read(b"A")?;
+    Some(table_of(
+        54,
+        None,
+        &[
+            (Pattern::Royal, Qualifier::Natural),
+            (Pattern::FiveKind(any), Qualifier::Either),
+            (Pattern::Wilds(2, Some(aces)), Qualifier::Either),
+            (Pattern::Royal, Qualifier::Wild),
+            (Pattern::StraightFlush, Qualifier::Either),
+            (Pattern::Quads(any, None), Qualifier::Either),
+            (Pattern::Wilds(2, None), Qualifier::Either),
+        ],
+    ))
+}
+
+/// Deuces and both jokers wild: five wild cards, four, five of a kind, wild royals, straight flushes, flushes.
+pub(crate) fn deuces_and_jokers() -> Option<PayTable> {
+    let any = RankSet::read(b"any")?;
+    Some(table_of(
+        54,
+        Some(0),
+        &[
+            (Pattern::Wilds(5, None), Qualifier::Either),
+            (Pattern::Wilds(4, None), Qualifier::Either),
+            (Pattern::FiveKind(any), Qualifier::Either),
+            (Pattern::Royal, Qualifier::Wild),
+            (Pattern::StraightFlush, Qualifier::Either),
+            (Pattern::Flush, Qualifier::Either),
         ],
     ))
 }

@@ -3,4 +3,4 @@ use Rattle.vp_wild.specs.Places.{suit_bit}
 use Rattle.vp_wild.proofs.places.suit_bits.Given as goal
 
 abbrev pub invariant-loop-card : goal.invariant-loop-card
-invariant-loop-card l = (length l.bits ≡ 53) × ((k : ℕ) → k < l.card → slice_index_or l.bits k 0 ≡ suit_bit l.wild k)
+invariant-loop-card l = (length l.bits ≡ 54) × ((k : ℕ) → k < l.card → slice_index_or l.bits k 0 ≡ suit_bit l.wild k)
