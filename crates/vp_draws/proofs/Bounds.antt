@@ -1,11 +1,14 @@
 -- Best values, and their sum over all deals, fit 64 bits.
-use Rattle.std.proofs.Common.{◌≡◌, ◌⊎◌, inl, inr, ℕ, zero, suc, ◌*◌, ◌^◌, ◌<◌, ◌≤◌, List, sym, lit<, lit≤, arith}
-use Rattle.std.proofs.Math.Nat.{mul-suc}
+use Rattle.std.proofs.Common.{◌≡◌, inl, inr, ℕ, zero, suc, ◌*◌, ◌^◌, ◌<◌, ◌≤◌, List, sym, lit≤, arith}
+use Rattle.std.proofs.Math.Nat.{mul-le-mul_left, mul-le-mul_right, mul-suc}
 use Rattle.std.specs.List.{sum_by}
+use Rattle.vp_card.specs.Cards.{IsDeck}
 use Rattle.vp_sets.specs.Sets.{deck, combos, choose}
 use Rattle.vp_sets.specs.Draws.{common}
+use Rattle.std.proofs.lemmas.Bool.{cases_lt}
+use Rattle.vp_sets.proofs.Binomials.{choose-suc}
 use Rattle.vp_sets.proofs.Pascal.{ways_are}
-use Rattle.vp_sets.proofs.Denominators.{common-52, common-53, common_small}
+use Rattle.vp_sets.proofs.Denominators.{common_small}
 use Rattle.vp_sets.proofs.Holds.{Dealt}
 use Rattle.vp_suit.proofs.Below.{below, below-zero, below-suc}
 use Rattle.vp_suit.proofs.Deals.{deal, deal_is, sum_of_deals}
@@ -13,31 +16,39 @@ use Rattle.vp_suit.proofs.TurnedDraws.{dealt_is}
 use Rattle.vp_pay.specs.declared.table.PayTable.{PayTable}
 use Rattle.vp_pay.specs.Table.{IsTable}
 use Rattle.vp_draws.specs.Draws.{best, sum_of_best}
-use Rattle.vp_draws.proofs.Values.{deck_is, value_le, value_is}
+use Rattle.vp_draws.proofs.Values.{value_le, value_is}
 use Rattle.vp_draws.proofs.Chosen.{best_le}
 
 pub best_small : (table : PayTable) (coin : ℕ) (hand : List ℕ) → IsTable table → Dealt table.deck hand → best table coin hand ≤ 500000 * common table.deck
 best_small table coin hand t d = best_le table coin hand (500000 * common table.deck) (λ mask l. rw (← value_is table coin hand mask) (value_le table coin hand mask t d))
 
 pub best_fits : (table : PayTable) (coin : ℕ) (hand : List ℕ) → IsTable table → Dealt table.deck hand → best table coin hand < 2 ^ 64
-best_fits table coin hand t d = omega (arith, best_small table coin hand t d, common_small table.deck (deck_is table.deck t.least_deck t.greatest_deck))
+best_fits table coin hand t d = omega (arith, best_small table coin hand t d, common_small table.deck t.known_deck)
 
 -- a bound on each term bounds the sum
 below_le : (x : ℕ → ℕ) (m n : ℕ) → ((i : ℕ) → i < n → x i ≤ m) → below x n ≤ m * n
 below_le x m zero h = omega (arith, below-zero x)
 below_le x m (suc n) h = omega (arith, below-suc x n, below_le x m n (λ i l. h i (omega arith)), h n (omega arith), mul-suc m n)
 
--- how many deals there are
-deals-52 : choose 52 5 ≡ 2598960
-deals-52 = sym (ways_are 52 5 (lit≤ tt) (lit≤ tt))
+-- more cards have no fewer deals
+choose_up : (n m k : ℕ) → n ≤ m → choose n (suc k) ≤ choose m (suc k)
+choose_up n zero k l = let z : n ≡ 0 = omega arith in rw z (omega arith)
+choose_up n (suc m) k l = elim (cases_lt m n) [
+  | inl h ↦ let e : n ≡ suc m = omega arith in rw e (omega arith)
+  | inr h ↦ omega (arith, choose-suc m k, choose_up n m k h)
+]
 
-deals-53 : choose 53 5 ≡ 2869685
-deals-53 = sym (ways_are 53 5 (lit≤ tt) (lit≤ tt))
+-- how many deals there are, at most
+deals_few : (n : ℕ) → n ≤ 54 → choose n 5 ≤ 3162510
+deals_few n l =
+    let greatest : choose 54 5 ≡ 3162510 = sym (ways_are 54 5 (lit≤ tt) (lit≤ tt)) in
+    omega (arith, greatest, choose_up n 54 4 l)
 
 -- the greatest payment for every deal of a deck fits
-room : (n : ℕ) → (n ≡ 52) ⊎ (n ≡ 53) → 500000 * common n * choose n 5 < 2 ^ 64
-room n (inl e) = rw (e, common-52, deals-52) (lit< tt)
-room n (inr e) = rw (e, common-53, deals-53) (lit< tt)
+room : (n : ℕ) → IsDeck n → 500000 * common n * choose n 5 < 2 ^ 64
+room n h =
+    let x : 500000 * common n * choose n 5 ≤ 4280760000000 * choose n 5 = mul-le-mul_right (choose n 5) (omega (arith, common_small n h)) in
+    omega (arith, deals_few n h.1)
 
 pub sum_of_best_small : (table : PayTable) (coin : ℕ) → IsTable table → sum_of_best table coin ≤ 500000 * common table.deck * choose table.deck 5
 unfolding sum_of_best
@@ -49,4 +60,13 @@ sum_of_best_small table coin t =
     omega arith
 
 pub sum_of_best_fits : (table : PayTable) (coin : ℕ) → IsTable table → sum_of_best table coin < 2 ^ 64
-sum_of_best_fits table coin t = omega (arith, sum_of_best_small table coin t, room table.deck (deck_is table.deck t.least_deck t.greatest_deck))
+sum_of_best_fits table coin t = omega (arith, sum_of_best_small table coin t, room table.deck t.known_deck)
+
+-- ---- the denominator of a return
+
+-- whatever the bet, it is below 2 to the power of 64
+pub denominator_fits : (n coin : ℕ) → IsDeck n → coin < 256 → choose n 5 * common n * coin < 2 ^ 64
+denominator_fits n coin d l =
+    let x : choose n 5 * common n ≤ 3162510 * common n = mul-le-mul_right (common n) (deals_few n d.1) in
+    let y : choose n 5 * common n * coin ≤ choose n 5 * common n * 255 = mul-le-mul_left (choose n 5 * common n) (omega arith) in
+    omega (arith, common_small n d)

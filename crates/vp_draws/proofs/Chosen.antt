@@ -2,8 +2,11 @@
 use Rattle.std.proofs.Common.{◌≡◌, inl, inr, ℕ, zero, suc, ◌+◌, ◌<◌, ◌≤◌, List, refl, sym, subst, arith, add-one}
 use Rattle.std.proofs.lemmas.Bool.{cases_lt}
 use Rattle.vp_pay.specs.declared.table.PayTable.{PayTable}
-use Rattle.vp_draws.specs.Draws.{value, best, least_best}
+use Rattle.vp_pay.specs.Table.{IsTable}
+use Rattle.vp_sets.proofs.Holds.{Dealt}
+use Rattle.vp_draws.specs.Draws.{IsPrinted, value, best, least_best}
 use Rattle.vp_draws.specs.declared.best.Best.{Best}
+use Rattle.vp_draws.proofs.Values.{value_mean}
 use Rattle.vp_draws.proofs.Choice.{IsBestBelow, best_first, best_more, is_best, is_least_best}
 
 -- there is a best of the masks up to n
@@ -33,14 +36,14 @@ all_found : (f : ℕ → ℕ) (n : ℕ) → FoundBest f (suc n)
 all_found f zero = first_found f
 all_found f (suc n) = subst (λ k. FoundBest f k) (add-one (suc n)) (one_more f (suc n) (all_found f n))
 
--- what the best hold of a hand is
-pub record IsBestHold (f : ℕ → ℕ) (mask top : ℕ) : Type 0 where
+-- the best of the masks by the values that f gives
+record IsBestHold (f : ℕ → ℕ) (mask top : ℕ) : Type 0 where
   pub small : mask < 32
   pub value : f mask ≡ top
   pub greatest : (other : ℕ) → other < 32 → f other ≤ top
   pub least : (other : ℕ) → other < mask → f other < top
 
-pub best_hold : (table : PayTable) (coin : ℕ) (hand : List ℕ) → IsBestHold (value table coin hand) (least_best table coin hand) (best table coin hand)
+best_hold : (table : PayTable) (coin : ℕ) (hand : List ℕ) → IsBestHold (value table coin hand) (least_best table coin hand) (best table coin hand)
 best_hold table coin hand =
     let b : FoundBest (value table coin hand) 32 = all_found (value table coin hand) 31 in
     let mask : b.found.mask ≡ least_best table coin hand = is_least_best table coin hand 32 b.found refl b.is in
@@ -62,3 +65,13 @@ below_least_best table coin hand mask l = (best_hold table coin hand).least mask
 -- what no hold exceeds, the best value does not
 pub best_le : (table : PayTable) (coin : ℕ) (hand : List ℕ) (v : ℕ) → ((mask : ℕ) → mask < 32 → value table coin hand mask ≤ v) → best table coin hand ≤ v
 best_le table coin hand v h = omega (arith, least_best_value table coin hand, h (least_best table coin hand) (least_best_small table coin hand))
+
+-- the least best hold of a deal, as it is printed
+pub printed : (table : PayTable) (coin : ℕ) (hand : List ℕ) → IsTable table → Dealt table.deck hand → IsPrinted table coin hand (least_best table coin hand) (best table coin hand)
+printed table coin hand t d = record {
+  hold = least_best_small table coin hand;
+  worth = least_best_value table coin hand;
+  mean = λ other l. value_mean table coin hand other t d;
+  greatest = value_le_best table coin hand;
+  least = below_least_best table coin hand;
+}

@@ -12,7 +12,7 @@ use Rattle.vp_suit.proofs.TurnedDraws.{draws_turned}
 use Rattle.vp_suit.proofs.CarriedBack.{carried_back}
 use Rattle.vp_wild.specs.Payment.{line, pay}
 use Rattle.vp_wild.proofs.SuitTurns.{line_kept, pay_kept}
-use Rattle.vp_draws.specs.Draws.{total, value, best, sum_of_best}
+use Rattle.vp_draws.specs.Draws.{total, total2, value, value2, best, sum_of_best}
 use Rattle.vp_draws.proofs.Chosen.{value_le_best, best_le}
 
 -- the sum over the draws of what is made of the payment, or of the pay line
@@ -39,6 +39,18 @@ unfolding value
 value_turned t mask coin table cards big l d =
     ap (λ k. total table coin (turn t cards) (carried t cards mask) * scale table.deck k) (discards_turned table.deck t mask cards l d)
     ∙ ap (λ m. m * scale table.deck (length (discarded mask cards))) (total_turned t mask coin table cards big l d)
+
+pub total2_turned : (t mask coin : ℕ) (table : PayTable) (cards : List ℕ) → 52 ≤ table.deck → t < 24 → IsDeal table.deck cards
+    → total2 table coin (turn t cards) (carried t cards mask) ≡ total2 table coin cards mask
+unfolding total2
+total2_turned t mask coin table cards big l d = payments_turned table.deck t mask coin table (λ p. p * p) cards big l d
+
+pub value2_turned : (t mask coin : ℕ) (table : PayTable) (cards : List ℕ) → 52 ≤ table.deck → t < 24 → IsDeal table.deck cards
+    → value2 table coin (turn t cards) (carried t cards mask) ≡ value2 table coin cards mask
+unfolding value2
+value2_turned t mask coin table cards big l d =
+    ap (λ k. total2 table coin (turn t cards) (carried t cards mask) * scale table.deck k) (discards_turned table.deck t mask cards l d)
+    ∙ ap (λ m. m * scale table.deck (length (discarded mask cards))) (total2_turned t mask coin table cards big l d)
 
 -- no hold of a deal is worth more than the best hold of the turned deal
 best_le_turned : (t coin : ℕ) (table : PayTable) (cards : List ℕ) → 52 ≤ table.deck → t < 24 → IsDeal table.deck cards → best table coin cards ≤ best table coin (turn t cards)

@@ -11,9 +11,9 @@ use Rattle.vp_sets.specs.Index.{IsSet}
 -- what hands are made of: at most five chosen cards, rising, and others to choose from, all of them different
 pub record AreChoices (chosen others : List ℕ) : Type 0 where
   pub five : length chosen ≤ 5
-  pub set : IsSet 53 chosen
-  pub few : length others ≤ 48
-  pub below : All (λ card. card < 53) others
+  pub set : IsSet 54 chosen
+  pub few : length others ≤ 49
+  pub below : All (λ card. card < 54) others
   pub once : (card : ℕ) → times card (chosen ++ others) ≤ 1
 
 -- the sum of the payments over all hands made of the chosen cards and as many of the others as are missing

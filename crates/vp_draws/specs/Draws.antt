@@ -1,10 +1,11 @@
--- What the holds of a hand are worth.
-use Rattle.std.specs.Prelude.{ℕ, ◌*◌, max, ◌==◌, List, [], ◌∷◌, length, find, unwrap_or, sum_by, count_by}
+-- What the holds of a hand are worth. The expected payment of a hold is that of S. N. Ethier, The Doctrine of Chances (2010), in its
+-- chapter on video poker: the mean of the payments over all draws, each as likely as the others.
+use Rattle.std.specs.Prelude.{◌≡◌, ℕ, ◌*◌, ◌<◌, ◌≤◌, max, ◌==◌, List, [], ◌∷◌, length, find, unwrap_or, sum_by, count_by}
 use Rattle.std.specs.List.{range_with_len}
 use Rattle.vp_pay.specs.declared.table.PayTable.{PayTable}
 use Rattle.vp_wild.specs.Payment.{pay}
-use Rattle.vp_sets.specs.Sets.{deck, combos}
-use Rattle.vp_sets.specs.Draws.{discarded, scale, sum_over_draws}
+use Rattle.vp_sets.specs.Sets.{choose, combos, deck}
+use Rattle.vp_sets.specs.Draws.{common, discarded, draws, scale, sum_over_draws}
 
 -- the sum of the payments over all draws of a hold
 unfoldable pub total : PayTable → ℕ → List ℕ → ℕ → ℕ
@@ -13,6 +14,18 @@ total table coin hand mask = sum_over_draws (pay table coin) table.deck hand mas
 -- the expected payment of a hold, times the common denominator of the deck
 unfoldable pub value : PayTable → ℕ → List ℕ → ℕ → ℕ
 value table coin hand mask = total table coin hand mask * scale table.deck (length (discarded mask hand))
+
+-- the sum of the squares of the payments over all draws of a hold
+unfoldable pub total2 : PayTable → ℕ → List ℕ → ℕ → ℕ
+total2 table coin hand mask = sum_over_draws (λ final. pay table coin final * pay table coin final) table.deck hand mask
+
+-- the mean square of the payments of a hold, times the common denominator of the deck
+unfoldable pub value2 : PayTable → ℕ → List ℕ → ℕ → ℕ
+value2 table coin hand mask = total2 table coin hand mask * scale table.deck (length (discarded mask hand))
+
+-- worth over the common denominator of the deck is the mean over all draws of a hold, where sum is the sum over them
+abbrev pub IsMean : ℕ → List ℕ → ℕ → ℕ → ℕ → Type 0
+IsMean n hand mask sum worth = worth * length (draws n hand mask) ≡ sum * common n
 
 -- the masks of the 32 holds
 unfoldable pub masks : List ℕ
@@ -38,3 +51,16 @@ ties table coin hand = count_by (λ mask. value table coin hand mask == best tab
 -- the sum of the greatest values over all deals: the mean of the best expected payment, times the number of deals and the common denominator
 unfoldable pub sum_of_best : PayTable → ℕ → ℕ
 sum_of_best table coin = sum_by (best table coin) (combos 5 (deck table.deck))
+
+-- a printed hold of a hand with its value: the value over the common denominator is the mean payment over all draws, as it is for each
+-- of the 32 holds; none of them is worth more, and each of a smaller mask is worth less
+pub record IsPrinted (table : PayTable) (coin : ℕ) (hand : List ℕ) (mask top : ℕ) : Type 0 where
+  pub hold : mask < 32
+  pub worth : value table coin hand mask ≡ top
+  pub mean : (other : ℕ) → other < 32 → IsMean table.deck hand other (total table coin hand other) (value table coin hand other)
+  pub greatest : (other : ℕ) → other < 32 → value table coin hand other ≤ top
+  pub least : (other : ℕ) → other < mask → value table coin hand other < top
+
+-- over what a return stands: the number of deals from a deck of n, times the common denominator, times the bet
+unfoldable pub return_denominator : ℕ → ℕ → ℕ
+return_denominator n coin = choose n 5 * common n * coin

@@ -4,7 +4,7 @@ ghost use Rattle.std.specs.Prelude.{ℕ, ◌≡◌, ◌+◌, ◌*◌, ◌<◌, �
 ghost use Rattle.vp_card.specs.Cards.{IsHand, in_deck};
 ghost use Rattle.vp_pay.specs.Table.{IsTable};
 ghost use Rattle.vp_sets.specs.Draws.{common, discarded, draws};
-ghost use Rattle.vp_draws.specs.Draws.{best, least_best, masks, ties, total, value};
+ghost use Rattle.vp_draws.specs.Draws.{IsMean, best, least_best, masks, ties, total, value};
 
 use crate::walk::total_of;
 use std::sync::ledger::Ledger;
@@ -39,7 +39,7 @@ pub fn value_of<L: Ledger>(
     requires cards { in_deck table.now.deck hand.now ≡ true }
     ensures value { result ≡ value table.now coin hand.now mask }
     // Over the common denominator it is the mean of the payments over all draws.
-    ensures mean { result * length (draws table.now.deck hand.now mask) ≡ total table.now coin hand.now mask * common table.now.deck }
+    ensures mean { IsMean table.now.deck hand.now mask (total table.now coin hand.now mask) result }
     ensures steps { steps.new ≡ steps.old + length (draws table.now.deck hand.now mask) }
 {
     let mut payments = KeptPayments::new(table, coin);

@@ -3,10 +3,14 @@
 
 mod best;
 mod laws;
+mod returns;
 #[cfg(test)]
 mod tests;
 mod walk;
 
 pub use best::{Best, better, cards_drawn, plain_best, value_of};
-pub use laws::{best_hold_laws, best_holds_are_carried, values_are_kept_by_turns};
+pub use laws::{
+    best_hold_laws, best_holds_are_carried, printed_holds_are_best, values_are_kept_by_turns,
+};
+pub use returns::return_denominator;
 pub use walk::plain_total;

@@ -1,4 +1,4 @@
-use Rattle.vp_draws.proofs.tests.draw_to_a_royal.Given as goal
+use Rattle.vp_draws.proofs.tests.worked_deals.Given as goal
 
 abbrev pub ghosts-worth : goal.ghosts-worth
 ghosts-worth g a = record { name = a.blank.name; parts = a.blank.parts }
