@@ -15,7 +15,7 @@ use Rattle.vp_count.specs.Sums.{number, containing}
 use Rattle.vp_count.specs.Table.{HasSums, above_sum, first_word, five_numbers}
 use Rattle.vp_count.proofs.Levels.{level_sum, sum_agree, containing_le, containing_five, choose_five, without_has}
 use Rattle.vp_card.proofs.Rising.{length-place}
-use Rattle.vp_count.proofs.Scan.{word, set_place, above_is, word_is}
+use Rattle.vp_count.proofs.Scan.{index_below, word, set_place, above_is, word_is}
 use Rattle.vp_count.proofs.Words.{first_word-suc, first_word_next, first_word_mono}
 
 has_append : (a b : List ℕ) (c : ℕ) → has (a ++ b) c ≡ (has a c || has b c)
@@ -66,9 +66,6 @@ same_set n s t g h l e =
     ∙ ap (λ k. get_or (colex k n) (index_from 0 s) []) l
     ∙ ap (λ i. get_or (colex (length t) n) i []) (sym (index_is s) ∙ e ∙ index_is t)
     ∙ at_index n t (set_rises n t h) (set_below n t h)
-
-pub index_below : (n : ℕ) (s : List ℕ) → IsSet n s → set_index s < choose n (length s)
-index_below n s g = omega (arith, index_lt n s (set_rises n s g) (set_below n s g), index_is s)
 
 -- the sets of k members with indexes below i have their sums; `now` is the set with the index i
 pub record Filled (n k : ℕ) (w words now : List ℕ) (i : ℕ) : Type 0 where

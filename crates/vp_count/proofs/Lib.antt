@@ -6,3 +6,5 @@ pub mod Levels
 pub mod Scan
 pub mod Words
 pub mod Fill
+pub mod HeldMasks
+pub mod HandNumbers

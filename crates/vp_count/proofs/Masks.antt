@@ -1,7 +1,8 @@
 -- The bits of masks, and the entries of masks after one pass.
 use Rattle.std.proofs.Common.{◌≡◌, ◌⊎◌, inl, inr, ℕ, zero, suc, ◌+◌, ◌-◌, ◌*◌, ◌/◌, ◌%◌, ◌^◌, ◌<◌, ◌≤◌, refl, ap, sym, ◌∙◌, subst, arith, add-one, List, length, get_or, set, get_or-set_same, get_or-set_other}
 use Rattle.std.proofs.Math.Nat.{add-div_right, pow-suc}
-use Rattle.std.proofs.lemmas.Bool.{cases_eq}
+use Rattle.std.proofs.lemmas.Bool.{cases_eq, cases_lt}
+use Rattle.vp_count.specs.HeldMasks.{IsOneBit}
 use Rattle.vp_count.proofs.Passes.{entry, entry_same, entry_less}
 
 -- the masks below i are done: those without the bit have lost the entry with it
@@ -112,3 +113,58 @@ passed_more n w hand old new bit p five l h less same = record {
         let e : m / bit % 2 ≡ 1 = omega arith in
         let e' : m / 2 ^ p % 2 ≡ 1 = subst (λ x. m / x % 2 ≡ 1) h.bit_is e in
         same m b e ∙ h.entries m b ∙ sym (entry_same n w hand p m (omega arith) e')
+
+-- ---- runs of masks without the bit
+
+-- where a run begins
+pub record Run (bit base : ℕ) : Type 0 where
+  pub whole : base % (2 * bit) ≡ 0
+  pub within : base ≤ 32
+
+run_by : (bit base : ℕ) → IsOneBit bit → (P : ℕ → Type 0) → P 1 → P 2 → P 4 → P 8 → P 16 → P bit
+run_by bit base (inl e) P a b c d f = subst P (sym e) a
+run_by bit base (inr (inl e)) P a b c d f = subst P (sym e) b
+run_by bit base (inr (inr (inl e))) P a b c d f = subst P (sym e) c
+run_by bit base (inr (inr (inr (inl e)))) P a b c d f = subst P (sym e) d
+run_by bit base (inr (inr (inr (inr e)))) P a b c d f = subst P (sym e) f
+
+-- a run and the masks with the bit behind it stand among the 32
+pub run_room : (bit base : ℕ) → IsOneBit bit → base % (2 * bit) ≡ 0 → base < 32 → base + 2 * bit ≤ 32
+run_room bit base one whole l =
+    run_by bit base one (λ b. base % (2 * b) ≡ 0 → base + 2 * b ≤ 32) (λ w. omega arith) (λ w. omega arith) (λ w. omega arith) (λ w. omega arith) (λ w. omega arith) whole
+
+-- the masks of a run are without the bit
+pub run_without : (bit base k : ℕ) → IsOneBit bit → base % (2 * bit) ≡ 0 → base ≤ k → k < base + bit → k / bit % 2 ≡ 0
+run_without bit base k one whole l m =
+    run_by bit base one (λ b. base % (2 * b) ≡ 0 → k < base + b → k / b % 2 ≡ 0) (λ w h. omega arith) (λ w h. omega arith) (λ w h. omega arith) (λ w h. omega arith) (λ w h. omega arith) whole m
+
+-- those behind it have it
+pub run_with : (bit base k : ℕ) → IsOneBit bit → base % (2 * bit) ≡ 0 → base + bit ≤ k → k < base + 2 * bit → k / bit % 2 ≡ 1
+run_with bit base k one whole l m =
+    run_by bit base one (λ b. base % (2 * b) ≡ 0 → base + b ≤ k → k < base + 2 * b → k / b % 2 ≡ 1) (λ w h i. omega arith) (λ w h i. omega arith) (λ w h i. omega arith) (λ w h i. omega arith) (λ w h i. omega arith) whole l m
+
+-- the next run
+pub run_next : (bit base : ℕ) → IsOneBit bit → base % (2 * bit) ≡ 0 → (base + 2 * bit) % (2 * bit) ≡ 0
+run_next bit base one whole =
+    run_by bit base one (λ b. base % (2 * b) ≡ 0 → (base + 2 * b) % (2 * b) ≡ 0) (λ w. omega arith) (λ w. omega arith) (λ w. omega arith) (λ w. omega arith) (λ w. omega arith) whole
+
+-- masks with the bit are passed over
+pub left_skip : (old t : List ℕ) (bit i j : ℕ) → i ≤ j → ((k : ℕ) → i ≤ k → k < j → k / bit % 2 ≡ 1) → Left old t bit i → Left old t bit j
+left_skip old t bit i j l with_it h = record {
+  discarded = λ k a b d. one k a b d (cases_lt k i);
+  held = h.held;
+  later = λ k a b. h.later k (omega arith) b;
+}
+  where
+    one : (k : ℕ) → k < j → k < 32 → k / bit % 2 ≡ 0 → (k < i) ⊎ (i ≤ k) → get_or t k 0 + get_or old (k + bit) 0 ≡ get_or old k 0
+    one k a b d (inl m) = h.discarded k m b d
+    one k a b d (inr m) = absurd (let e : k / bit % 2 ≡ 1 = with_it k m a in omega arith)
+
+-- the bits of the five places
+pub one_bit : (p bit : ℕ) → p < 5 → bit ≡ 2 ^ p → IsOneBit bit
+one_bit zero bit l e = inl e
+one_bit (suc zero) bit l e = inr (inl e)
+one_bit (suc (suc zero)) bit l e = inr (inr (inl e))
+one_bit (suc (suc (suc zero))) bit l e = inr (inr (inr (inl e)))
+one_bit (suc (suc (suc (suc zero)))) bit l e = inr (inr (inr (inr e)))
+one_bit (suc (suc (suc (suc (suc p))))) bit l e = absurd (omega arith)

@@ -1,9 +1,9 @@
 -- One pass over the cards of the deck, from a set to the sets with one member more.
-use Rattle.std.proofs.Common.{◌≡◌, ◌⊎◌, inl, inr, ℕ, zero, suc, ◌+◌, ◌-◌, ◌*◌, ◌^◌, ◌<◌, ◌≤◌, refl, ap, sym, ◌∙◌, subst, arith, add-one, Bool, true, false, cond, not, ◌==◌, List, [], ◌∷◌, ◌++◌, length, filter, get_or, take, drop, append-nil}
-use Rattle.std.specs.List.{sum_by}
-use Rattle.std.proofs.Math.Seq.{take-suc, drop-cons}
-use Rattle.std.proofs.lemmas.List.{length-take-le, length-drop, take-append-drop}
-use Rattle.std.proofs.lemmas.List.Sums.{sum_by_push, sum_by-append}
+use Rattle.std.proofs.Common.{◌≡◌, ◌⊎◌, inl, inr, ℕ, zero, suc, ◌+◌, ◌-◌, ◌*◌, ◌^◌, ◌<◌, ◌≤◌, refl, ap, sym, ◌∙◌, subst, arith, add-one, Bool, true, false, cond, not, ◌==◌, List, [], ◌∷◌, ◌++◌, length, filter, get_or, take, drop, append-nil, zero-add}
+use Rattle.std.specs.List.{sum, sum_by, range_with_len}
+use Rattle.std.proofs.Math.Seq.{take-suc, take-length, drop-cons}
+use Rattle.std.proofs.lemmas.List.{length-append, length-take-le, length-drop, get_or-take, get_or-drop, take-append-drop}
+use Rattle.std.proofs.lemmas.List.Sums.{sum_by-cons, sum_by_push}
 use Rattle.std.proofs.lemmas.Bool.{cases_lt, cases_eq, cases_Bool, false≢true}
 use Rattle.vp_card.specs.Cards.{place}
 use Rattle.vp_card.specs.Rising.{IsBelow, IsRising}
@@ -11,11 +11,11 @@ use Rattle.vp_sets.specs.Sets.{deck, choose, has, without}
 use Rattle.vp_sets.specs.Index.{IsSet, index_from, set_index}
 use Rattle.vp_card.proofs.Rising.{rising-place, place-none, place-here, place-later, length-place}
 use Rattle.vp_sets.proofs.Decks.{deck-suc}
-use Rattle.vp_sets.proofs.Binomials.{choose_small}
+use Rattle.vp_sets.proofs.Binomials.{choose-zero, choose-none, choose-suc, choose_small}
 use Rattle.vp_sets.proofs.Spread.{has-none, has-here, has-later, has-cons}
-use Rattle.vp_sets.proofs.Colex.{Below, below_more, below_push, set_rises, set_below, set_from, index-none, index-cons, index-append, index_lt, place_below, index_is}
+use Rattle.vp_sets.proofs.Colex.{Below, Topped, top_cases, above_at, below_at, choose_up, below_more, below_push, set_rises, set_below, set_from, index-none, index-cons, index-append, index_lt, place_below, index_is}
 use Rattle.vp_sets.proofs.Walk.{AtLeast, index_take, below_take}
-use Rattle.vp_count.specs.Table.{above_sum}
+use Rattle.vp_count.specs.Table.{above_sum, words_of_cards}
 
 rises_drop : (i : ℕ) (s : List ℕ) → IsRising s → IsRising (drop i s)
 rises_drop zero [] h = tt
@@ -44,6 +44,9 @@ place_between c (d ∷ a) b h k = place-later c d (a ++ b) (let l : d < c = h.0 
 pub set_place : (n c : ℕ) (s : List ℕ) → IsSet n s → c < n → has s c ≡ false → IsSet n (place c s)
 set_place n c s h l k = set_from n (place c s) (rising-place c s (Rattle.vp_sets.proofs.Decks.has-none s c k) (set_rises n s h)) (place_below n c s l (set_below n s h))
 
+pub index_below : (n : ℕ) (s : List ℕ) → IsSet n s → set_index s < choose n (length s)
+index_below n s g = omega (arith, index_lt n s (set_rises n s g) (set_below n s g), index_is s)
+
 without-append : (a b s : List ℕ) → without (a ++ b) s ≡ without a s ++ without b s
 unfolding without
 without-append [] b s = refl
@@ -67,40 +70,9 @@ without_member c s h = ap (λ z. without z s) (deck-suc c) ∙ without-append (d
 without_free : (c : ℕ) (s : List ℕ) → has s c ≡ false → without (deck (suc c)) s ≡ without (deck c) s ++ c ∷ []
 without_free c s h = ap (λ z. without z s) (deck-suc c) ∙ without-append (deck c) (c ∷ []) s ∙ ap (λ z. without (deck c) s ++ z) (without_one_not c s h)
 
--- a sum over fewer cards of the deck is no greater
-sum_up : (f : ℕ → ℕ) (s : List ℕ) (c d : ℕ) → sum_by f (without (deck c) s) ≤ sum_by f (without (deck (c + d)) s)
-sum_up f s c zero =
-    let e : sum_by f (without (deck (c + 0)) s) ≡ sum_by f (without (deck c) s) = ap (λ i. sum_by f (without (deck i) s)) (Rattle.std.proofs.Common.add-zero c) in
-    omega arith
-sum_up f s c (suc d) =
-    let ih : sum_by f (without (deck c) s) ≤ sum_by f (without (deck (c + d)) s) = sum_up f s c d in
-    let i : ℕ = c + d in
-    let a : sum_by f (without (deck (suc i)) s) ≡ sum_by f (without (deck i) s) + sum_by f (without (i ∷ []) s) = ap (λ z. sum_by f z) (ap (λ z. without z s) (deck-suc i) ∙ without-append (deck i) (i ∷ []) s) ∙ sum_by-append f (without (deck i) s) (without (i ∷ []) s) in
-    let q : c + suc d ≡ suc i = omega arith in
-    let b : sum_by f (without (deck (c + suc d)) s) ≡ sum_by f (without (deck (suc i)) s) = ap (λ z. sum_by f (without (deck z) s)) q in
-    omega arith
-
-pub sum_within : (f : ℕ → ℕ) (s : List ℕ) (c n : ℕ) → c ≤ n → sum_by f (without (deck c) s) ≤ sum_by f (without (deck n) s)
-sum_within f s c n l =
-    let q : c + (n - c) ≡ n = omega arith in
-    subst (λ i. sum_by f (without (deck c) s) ≤ sum_by f (without (deck i) s)) q (sum_up f s c (n - c))
-
 -- the word of a set with one card more
 unfoldable pub word : List ℕ → ℕ → List ℕ → ℕ → ℕ
 word words start s c = get_or words (start + set_index (place c s)) 0
-
--- the cards below c are passed; `at` of them are in the set
-pub record Scan (s words : List ℕ) (start c at front back total : ℕ) : Type 0 where
-  pub at_le : at ≤ length s
-  pub low : Below c (take at s)
-  pub high : AtLeast c (drop at s)
-  pub front_is : front ≡ index_from 0 (take at s)
-  pub back_is : back ≡ index_from (suc at) (drop at s)
-  pub total_is : total ≡ sum_by (word words start s) (without (deck c) s)
-
-at_least_zero : (s : List ℕ) → AtLeast 0 s
-at_least_zero [] = tt
-at_least_zero (c ∷ s) = (omega arith, at_least_zero s)
 
 drop_nothing : (s : List ℕ) → drop 0 s ≡ s
 drop_nothing [] = refl
@@ -121,111 +93,13 @@ member_at [] i l = absurd (omega arith)
 member_at (c ∷ s) zero l = has-here c s
 member_at (c ∷ s) (suc i) l = has-cons c s (get_or s i 0) ∙ Rattle.std.proofs.lemmas.Bool.or_right (c == get_or s i 0) (has s (get_or s i 0)) (member_at s i (omega arith))
 
-pub scan_start : (s words : List ℕ) (start back : ℕ) → back ≡ index_from 1 s → Scan s words start 0 0 0 back 0
-unfolding deck without
-scan_start s words start back e = record {
-  at_le = omega arith;
-  low = subst (λ z. Below 0 z) (sym (take_nothing s)) tt;
-  high = subst (λ z. AtLeast 0 z) (sym (drop_nothing s)) (at_least_zero s);
-  front_is = sym (ap (λ z. index_from 0 z) (take_nothing s) ∙ index-none 0);
-  back_is = e ∙ ap (λ z. index_from 1 z) (sym (drop_nothing s));
-  total_is = refl;
-}
-
-pub scan_member : (s words : List ℕ) (start c at front back total : ℕ) → IsRising s → Scan s words start c at front back total → at < length s → get_or s at 0 ≡ c →
-    Scan s words start (c + 1) (at + 1) (front + choose c (at + 1)) (back - choose c (at + 2)) total
-scan_member s words start c at front back total r h l e =
-    let cut : drop at s ≡ c ∷ drop (suc at) s = drop-cons s at 0 l ∙ ap (λ z. z ∷ drop (suc at) s) e in
-    let longer : take (suc at) s ≡ take at s ++ c ∷ [] = take-suc s at 0 l ∙ ap (λ z. take at s ++ z ∷ []) e in
-    let rising : IsRising (c ∷ drop (suc at) s) = subst (λ z. IsRising z) cut (rises_drop at s r) in
-    let p : take (at + 1) s ≡ take (suc at) s = ap (λ i. take i s) (add-one at) in
-    let d : drop (at + 1) s ≡ drop (suc at) s = ap (λ i. drop i s) (add-one at) in
-    let w : choose c (at + 1) ≡ choose c (suc at) = ap (λ i. choose c i) (add-one at) in
-    let w2 : choose c (at + 2) ≡ choose c (suc (suc at)) = ap (λ i. choose c i) (omega arith) in
-    let x : choose (get_or s at 0) (suc at) ≡ choose c (suc at) = ap (λ i. choose i (suc at)) e in
-    let b : index_from (suc at) (drop at s) ≡ choose c (suc (suc at)) + index_from (suc (suc at)) (drop (suc at) s) = ap (λ z. index_from (suc at) z) cut ∙ index-cons (suc at) c (drop (suc at) s) in
-    let k : has s c ≡ true = subst (λ z. has s z ≡ true) e (member_at s at l) in
-    let y : index_from 0 (take (at + 1) s) ≡ index_from 0 (take (suc at) s) = ap (λ z. index_from 0 z) p in
-    let z : index_from (suc (at + 1)) (drop (at + 1) s) ≡ index_from (suc (suc at)) (drop (suc at) s) = ap (λ i. index_from (suc i) (drop i s)) (add-one at) in
-    record {
-      at_le = omega arith;
-      low = subst (λ t. Below (c + 1) t) (sym (p ∙ longer)) (below_push (c + 1) c (take at s) (below_more c (c + 1) (take at s) (omega arith) h.low) (omega arith));
-      high = subst (λ t. AtLeast (c + 1) t) (sym d) (subst (λ i. AtLeast i (drop (suc at) s)) (sym (add-one c)) (above_at_least c (drop (suc at) s) rising.0));
-      front_is = omega (arith, h.front_is, index_take s at l);
-      back_is = omega (arith, h.back_is);
-      total_is = h.total_is ∙ ap (λ q. sum_by (word words start s) q) (sym (without_member c s k)) ∙ ap (λ i. sum_by (word words start s) (without (deck i) s)) (sym (add-one c));
-    }
-
-pub scan_back : (s words : List ℕ) (start c at front back total : ℕ) → Scan s words start c at front back total → at < length s → get_or s at 0 ≡ c → choose c (at + 2) ≤ back
-scan_back s words start c at front back total h l e =
-    let cut : drop at s ≡ c ∷ drop (suc at) s = drop-cons s at 0 l ∙ ap (λ z. z ∷ drop (suc at) s) e in
-    let w2 : choose c (at + 2) ≡ choose c (suc (suc at)) = ap (λ i. choose c i) (omega arith) in
-    let b : index_from (suc at) (drop at s) ≡ choose c (suc (suc at)) + index_from (suc (suc at)) (drop (suc at) s) = ap (λ z. index_from (suc at) z) cut ∙ index-cons (suc at) c (drop (suc at) s) in
-    omega (arith, h.back_is)
-
-at_least_next : (c d : ℕ) (s : List ℕ) → c ≤ d → IsBelow d s → AtLeast (suc c) s
-at_least_next c d [] l h = tt
-at_least_next c d (e ∷ s) l h = (let m : d < e = h.0 in omega arith, at_least_next c d s l h.1)
-
-at_least_up : (c : ℕ) (t : List ℕ) → AtLeast c t → IsRising t → ((d : ℕ) (r : List ℕ) → t ≡ d ∷ r → d ≡ c → ⊥) → AtLeast (suc c) t
-at_least_up c [] h r ne = tt
-at_least_up c (d ∷ t) h r ne =
-    let l : c ≤ d = h.0 in
-    let m : d ≡ c → ⊥ = ne d t refl in
-    (omega arith, at_least_next c d t l r.0)
-
-free_high : (s words : List ℕ) (start c at front back total : ℕ) → IsRising s → Scan s words start c at front back total → (at < length s → get_or s at 0 ≡ c → ⊥) → AtLeast (suc c) (drop at s)
-free_high s words start c at front back total r h ne =
-    let e : (at < length s) ⊎ (length s ≤ at) = cases_lt at (length s) in
-    elim e [
-      | inl l ↦ at_least_up c (drop at s) h.high (rises_drop at s r) (λ d t q f. ne l (first l d t q f))
-      | inr l ↦ subst (λ z. AtLeast (suc c) z) (sym (drop_past at s l)) tt
-    ]
-  where
-    first : at < length s → (d : ℕ) (t : List ℕ) → drop at s ≡ d ∷ t → d ≡ c → get_or s at 0 ≡ c
-    first l d t q f =
-        let x : get_or s at 0 ∷ drop (suc at) s ≡ d ∷ t = sym (drop-cons s at 0 l) ∙ q in
-        ap (λ z. get_or z 0 0) x ∙ f
-
-pub scan_absent : (s words : List ℕ) (start c at front back total : ℕ) → IsRising s → Scan s words start c at front back total → (at < length s → get_or s at 0 ≡ c → ⊥) → has s c ≡ false
-scan_absent s words start c at front back total r h ne =
-    ap (λ z. has z c) (sym (take-append-drop at s)) ∙ below_absent c (take at s) (drop at s) h.low ∙ at_least_absent c (drop at s) (free_high s words start c at front back total r h ne)
-
--- the index of the set with one card more
-pub scan_index : (s words : List ℕ) (start c at front back total : ℕ) → IsRising s → Scan s words start c at front back total → (at < length s → get_or s at 0 ≡ c → ⊥) → set_index (place c s) ≡ front + choose c (at + 1) + back
-unfolding set_index
-scan_index s words start c at front back total r h ne =
-    let a : List ℕ = take at s in
-    let b : List ℕ = drop at s in
-    let p : place c s ≡ a ++ c ∷ b = ap (λ z. place c z) (sym (take-append-drop at s)) ∙ place_between c a b h.low (free_high s words start c at front back total r h ne) in
-    let m : length a ≡ at = length-take-le at s h.at_le in
-    let x : index_from 0 (a ++ c ∷ b) ≡ index_from 0 a + index_from (0 + length a) (c ∷ b) = index-append 0 a (c ∷ b) in
-    let q : 0 + length a ≡ at = omega arith in
-    let y : index_from (0 + length a) (c ∷ b) ≡ index_from at (c ∷ b) = ap (λ i. index_from i (c ∷ b)) q in
-    let w : choose c (at + 1) ≡ choose c (suc at) = ap (λ i. choose c i) (add-one at) in
-    let v : index_from 0 (place c s) ≡ index_from 0 (a ++ c ∷ b) = ap (λ z. index_from 0 z) p in
-    omega (arith, h.front_is, h.back_is, index-cons at c b)
-
 pub word_is : (s words : List ℕ) (start c : ℕ) → word words start s c ≡ get_or words (start + set_index (place c s)) 0
 unfolding word
 word_is s words start c = refl
 
-pub scan_free : (s words : List ℕ) (start c at front back total : ℕ) → IsRising s → Scan s words start c at front back total → (at < length s → get_or s at 0 ≡ c → ⊥) →
-    Scan s words start (c + 1) at front back (total + get_or words (start + (front + choose c (at + 1) + back)) 0)
-scan_free s words start c at front back total r h ne =
-    let k : has s c ≡ false = scan_absent s words start c at front back total r h ne in
-    let i : word words start s c ≡ get_or words (start + (front + choose c (at + 1) + back)) 0 = word_at in
-    record {
-      at_le = h.at_le;
-      low = below_more c (c + 1) (take at s) (omega arith) h.low;
-      high = subst (λ x. AtLeast x (drop at s)) (sym (add-one c)) (free_high s words start c at front back total r h ne);
-      front_is = h.front_is;
-      back_is = h.back_is;
-      total_is = ap (λ v. total + v) (sym i) ∙ ap (λ v. v + word words start s c) h.total_is ∙ sym (sum_by_push (word words start s) (without (deck c) s) c) ∙ ap (λ q. sum_by (word words start s) q) (sym (without_free c s k)) ∙ ap (λ x. sum_by (word words start s) (without (deck x) s)) (sym (add-one c));
-    }
-  where
-    word_at : word words start s c ≡ get_or words (start + (front + choose c (at + 1) + back)) 0
-    word_at = word_is s words start c ∙ ap (λ v. get_or words (start + v) 0) (scan_index s words start c at front back total r h ne)
+pub above_is : (n : ℕ) (words : List ℕ) (start : ℕ) (s : List ℕ) → above_sum n words start s ≡ sum_by (word words start s) (without (deck n) s)
+unfolding above_sum word
+above_is n words start s = refl
 
 index_bound : (j : ℕ) (s : List ℕ) → Below 54 s → j + length s ≤ 5 → index_from j s ≤ length s * 459165024
 index_bound j [] b l = omega (arith, index-none j)
@@ -240,65 +114,344 @@ below_drop n zero (c ∷ s) h = h
 below_drop n (suc i) [] h = tt
 below_drop n (suc i) (c ∷ s) h = below_drop n i s h.1
 
-pub scan_front : (s words : List ℕ) (start c at front back total : ℕ) → Below 54 s → length s ≤ 4 → Scan s words start c at front back total → front ≤ 2295825120
-scan_front s words start c at front back total b l h =
-    let m : length (take at s) ≡ at = length-take-le at s h.at_le in
-    omega (arith, h.front_is, h.at_le, index_bound 0 (take at s) (below_take 54 at s b) (omega (arith, h.at_le)))
-
-pub scan_behind : (s words : List ℕ) (start c at front back total : ℕ) → Below 54 s → length s ≤ 4 → Scan s words start c at front back total → back ≤ 2295825120
-scan_behind s words start c at front back total b l h =
-    let m : length (drop at s) ≡ length s - at = length-drop at s in
-    omega (arith, h.back_is, h.at_le, index_bound (suc at) (drop at s) (below_drop 54 at s b) (omega (arith, h.at_le)))
-
-pub scan_room : (n : ℕ) (s words : List ℕ) (start c at front back total : ℕ) → IsSet n s → c < n → Scan s words start c at front back total → (at < length s → get_or s at 0 ≡ c → ⊥) → front + choose c (at + 1) + back < choose n (length s + 1)
-scan_room n s words start c at front back total g l h ne =
-    let r : IsRising s = set_rises n s g in
-    let k : has s c ≡ false = scan_absent s words start c at front back total r h ne in
-    let t : IsSet n (place c s) = set_place n c s g l k in
-    let a : index_from 0 (place c s) < choose n (length (place c s)) = index_lt n (place c s) (set_rises n (place c s) t) (set_below n (place c s) t) in
-    let b : choose n (length (place c s)) ≡ choose n (length s + 1) = ap (λ i. choose n i) (length-place c s ∙ sym (add-one (length s))) in
-    omega (arith, is_index, scan_index s words start c at front back total r h ne)
-  where
-    is_index : set_index (place c s) ≡ index_from 0 (place c s)
-    is_index = index_is (place c s)
-
-pub above_is : (n : ℕ) (words : List ℕ) (start : ℕ) (s : List ℕ) → above_sum n words start s ≡ sum_by (word words start s) (without (deck n) s)
-unfolding above_sum word
-above_is n words start s = refl
-
-pub scan_fits : (n : ℕ) (s words : List ℕ) (start c at front back total : ℕ) → IsSet n s → c < n → Scan s words start c at front back total → (at < length s → get_or s at 0 ≡ c → ⊥) → total + get_or words (start + (front + choose c (at + 1) + back)) 0 ≤ above_sum n words start s
-scan_fits n s words start c at front back total g l h ne =
-    let k : Scan s words start (c + 1) at front back (total + get_or words (start + (front + choose c (at + 1) + back)) 0) = scan_free s words start c at front back total (set_rises n s g) h ne in
-    omega (arith, k.total_is, sum_within (word words start s) s (c + 1) n (omega arith), above_is n words start s)
-
-pub scan_done : (n : ℕ) (s words : List ℕ) (start c at front back total : ℕ) → c ≡ n → Scan s words start c at front back total → total ≡ above_sum n words start s
-scan_done n s words start c at front back total e h = h.total_is ∙ ap (λ i. sum_by (word words start s) (without (deck i) s)) e ∙ sym (above_is n words start s)
-
--- one more member counted, each one column up
-pub behind_take : (s : List ℕ) (i : ℕ) → i < length s → index_from 1 (take (i + 1) s) ≡ index_from 1 (take i s) + choose (get_or s i 0) (i + 2)
-behind_take s i l =
-    let a : index_from 1 (take (i + 1) s) ≡ index_from 1 (take i s ++ get_or s i 0 ∷ []) = ap (λ k. index_from 1 (take k s)) (add-one i) ∙ ap (λ z. index_from 1 z) (take-suc s i 0 l) in
-    let b : length (take i s) ≡ i = length-take-le i s (omega arith) in
-    let q : 1 + length (take i s) ≡ suc i = omega arith in
-    let d : index_from (1 + length (take i s)) (get_or s i 0 ∷ []) ≡ index_from (suc i) (get_or s i 0 ∷ []) = ap (λ k. index_from k (get_or s i 0 ∷ [])) q in
-    let w : choose (get_or s i 0) (i + 2) ≡ choose (get_or s i 0) (suc (suc i)) = ap (λ k. choose (get_or s i 0) k) (omega arith) in
-    omega (arith, index-append 1 (take i s) (get_or s i 0 ∷ []), index-cons (suc i) (get_or s i 0) [], index-none (suc (suc i)))
-
-pub behind_small : (s : List ℕ) (i : ℕ) → IsSet 54 s → length s ≤ 4 → i ≤ length s → index_from 1 (take i s) ≤ 2295825120
-behind_small s i h few l =
-    let m : length (take i s) ≡ i = length-take-le i s l in
-    omega (arith, index_bound 1 (take i s) (below_take 54 i s (set_below 54 s h)) (omega arith))
-
 -- a set of a deck is a set of a larger one
 pub set_wider : (n m : ℕ) (s : List ℕ) → n ≤ m → IsSet n s → IsSet m s
 set_wider n m s l h = set_from m s (set_rises n s h) (below_more n m s l (set_below n s h))
 
-pub scan_alike : (s words : List ℕ) (start c at front back total at' front' back' total' : ℕ) → Scan s words start c at front back total → at' ≡ at → front' ≡ front → back' ≡ back → total' ≡ total → Scan s words start c at' front' back' total'
-scan_alike s words start c at front back total at' front' back' total' h p q r t = record {
-  at_le = subst (λ i. i ≤ length s) (sym p) h.at_le;
-  low = subst (λ i. Below c (take i s)) (sym p) h.low;
-  high = subst (λ i. AtLeast c (drop i s)) (sym p) h.high;
-  front_is = q ∙ h.front_is ∙ ap (λ i. index_from 0 (take i s)) (sym p);
-  back_is = r ∙ h.back_is ∙ ap (λ i. index_from (suc i) (drop i s)) (sym p);
-  total_is = t ∙ h.total_is;
+-- ---- the index of a set with one card more
+
+-- the card stands between the first `at` members and the others
+pub record Between (s : List ℕ) (at c : ℕ) : Type 0 where
+  pub at_le : at ≤ length s
+  pub low : Below c (take at s)
+  pub high : AtLeast (suc c) (drop at s)
+
+between_absent : (s : List ℕ) (at c : ℕ) → Between s at c → has s c ≡ false
+between_absent s at c h = ap (λ z. has z c) (sym (take-append-drop at s)) ∙ below_absent c (take at s) (drop at s) h.low ∙ at_least_absent c (drop at s) h.high
+
+-- where the set with one card more stands, but for what that card adds to the index
+pub base_of : ℕ → List ℕ → ℕ → ℕ
+base_of start s at = start + (index_from 0 (take at s) + index_from (suc at) (drop at s))
+
+base_small : (start : ℕ) (s : List ℕ) (at : ℕ) → Below 54 s → length s ≤ 4 → at ≤ length s → base_of start s at ≤ start + 4591650240
+unfolding base_of
+base_small start s at b few l = omega (
+  arith,
+  length-take-le at s l,
+  length-drop at s,
+  index_bound 0 (take at s) (below_take 54 at s b) (omega (arith, length-take-le at s l)),
+  index_bound (suc at) (drop at s) (below_drop 54 at s b) (omega (arith, length-drop at s)),
+)
+
+between_index : (start : ℕ) (s : List ℕ) (at c : ℕ) → Between s at c → start + set_index (place c s) ≡ base_of start s at + choose c (at + 1)
+unfolding base_of set_index
+between_index start s at c h =
+    let a : List ℕ = take at s in
+    let b : List ℕ = drop at s in
+    let p : place c s ≡ a ++ c ∷ b = ap (λ z. place c z) (sym (take-append-drop at s)) ∙ place_between c a b h.low h.high in
+    let m : length a ≡ at = length-take-le at s h.at_le in
+    let x : index_from 0 (a ++ c ∷ b) ≡ index_from 0 a + index_from (0 + length a) (c ∷ b) = index-append 0 a (c ∷ b) in
+    let q : 0 + length a ≡ at = omega arith in
+    let y : index_from (0 + length a) (c ∷ b) ≡ index_from at (c ∷ b) = ap (λ i. index_from i (c ∷ b)) q in
+    let w : choose c (at + 1) ≡ choose c (suc at) = ap (λ i. choose c i) (add-one at) in
+    let v : index_from 0 (place c s) ≡ index_from 0 (a ++ c ∷ b) = ap (λ z. index_from 0 z) p in
+    omega (arith, index-cons at c b)
+
+-- the word of the set with a card more stands within the words
+between_room : (n : ℕ) (s words : List ℕ) (start at c : ℕ) → IsSet n s → c < n → start + choose n (length s + 1) ≤ length words → Between s at c → base_of start s at + choose c (at + 1) < length words
+between_room n s words start at c g l room h =
+    let k : has s c ≡ false = between_absent s at c h in
+    let t : IsSet n (place c s) = set_place n c s g l k in
+    let a : index_from 0 (place c s) < choose n (length (place c s)) = index_lt n (place c s) (set_rises n (place c s) t) (set_below n (place c s) t) in
+    let b : choose n (length (place c s)) ≡ choose n (length s + 1) = ap (λ i. choose n i) (length-place c s ∙ sym (add-one (length s))) in
+    let i : set_index (place c s) ≡ index_from 0 (place c s) = index_is (place c s) in
+    omega (arith, between_index start s at c h)
+
+-- ---- runs of cards that are not in the set
+
+range_push : (low count : ℕ) → range_with_len low (suc count) ≡ range_with_len low count ++ (low + count) ∷ []
+range_push low zero = ap (λ c. c ∷ []) (omega arith)
+range_push low (suc count) =
+    let q : low + 1 + count ≡ low + suc count = omega arith in
+    ap (λ z. low ∷ z) (range_push (low + 1) count) ∙ ap (λ c. low ∷ (range_with_len (low + 1) count ++ c ∷ [])) q
+
+-- the sum over the cards below the end, where none of the last `count` is in the set
+run_splits : (f : ℕ → ℕ) (s : List ℕ) (low count : ℕ) → ((c : ℕ) → low ≤ c → c < low + count → has s c ≡ false) → sum_by f (without (deck (low + count)) s) ≡ sum_by f (without (deck low) s) + sum_by f (range_with_len low count)
+run_splits f s low zero h =
+    let e : sum_by f (without (deck (low + 0)) s) ≡ sum_by f (without (deck low) s) = ap (λ i. sum_by f (without (deck i) s)) (omega arith) in
+    omega arith
+run_splits f s low (suc count) h =
+    let ih : sum_by f (without (deck (low + count)) s) ≡ sum_by f (without (deck low) s) + sum_by f (range_with_len low count) = run_splits f s low count (λ c a b. h c a (omega arith)) in
+    let q : low + suc count ≡ suc (low + count) = omega arith in
+    let a : sum_by f (without (deck (low + suc count)) s) ≡ sum_by f (without (deck (suc (low + count))) s) = ap (λ i. sum_by f (without (deck i) s)) q in
+    let b : sum_by f (without (deck (suc (low + count))) s) ≡ sum_by f (without (deck (low + count)) s) + f (low + count) = ap (λ z. sum_by f z) (without_free (low + count) s (h (low + count) (omega arith) (omega arith))) ∙ sum_by_push f (without (deck (low + count)) s) (low + count) in
+    let d : sum_by f (range_with_len low (suc count)) ≡ sum_by f (range_with_len low count) + f (low + count) = ap (λ z. sum_by f z) (range_push low count) ∙ sum_by_push f (range_with_len low count) (low + count) in
+    omega arith
+
+run_agrees : (f g : ℕ → ℕ) (low count : ℕ) → ((c : ℕ) → low ≤ c → c < low + count → f c ≡ g c) → sum_by f (range_with_len low count) ≡ sum_by g (range_with_len low count)
+run_agrees f g low zero h = refl
+run_agrees f g low (suc count) h =
+    let ih : sum_by f (range_with_len (low + 1) count) ≡ sum_by g (range_with_len (low + 1) count) = run_agrees f g (low + 1) count (λ c a b. h c (omega arith) (omega arith)) in
+    omega (arith, sum_by-cons f low (range_with_len (low + 1) count), sum_by-cons g low (range_with_len (low + 1) count), h low (omega arith) (omega arith))
+
+-- their words
+pub cards_are : (words : List ℕ) (first size low count : ℕ) → words_of_cards words first size low count ≡ sum_by (λ c. get_or words (first + choose c size) 0) (range_with_len low count)
+unfolding words_of_cards
+cards_are words first size low count = refl
+
+pub cards_none : (words : List ℕ) (first size low : ℕ) → words_of_cards words first size low 0 ≡ 0
+unfolding words_of_cards
+cards_none words first size low = refl
+
+pub cards_more : (words : List ℕ) (first size low count : ℕ) → words_of_cards words first size low (count + 1) ≡ words_of_cards words first size low count + get_or words (first + choose (low + count) size) 0
+unfolding words_of_cards
+cards_more words first size low count =
+    let f : ℕ → ℕ = λ c. get_or words (first + choose c size) 0 in
+    ap (λ k. sum_by f (range_with_len low k)) (add-one count) ∙ ap (λ z. sum_by f z) (range_push low count) ∙ sum_by_push f (range_with_len low count) (low + count)
+
+cards_more_le : (words : List ℕ) (first size low count d : ℕ) → words_of_cards words first size low count ≤ words_of_cards words first size low (count + d)
+cards_more_le words first size low count zero =
+    let e : words_of_cards words first size low (count + 0) ≡ words_of_cards words first size low count = ap (λ k. words_of_cards words first size low k) (omega arith) in
+    omega arith
+cards_more_le words first size low count (suc d) =
+    let e : words_of_cards words first size low (count + suc d) ≡ words_of_cards words first size low (count + d + 1) = ap (λ k. words_of_cards words first size low k) (omega arith) in
+    omega (arith, cards_more_le words first size low count d, cards_more words first size low (count + d))
+
+-- a part of the sum, with its next word, is no greater than the whole
+pub cards_fit : (words : List ℕ) (first size low count many : ℕ) → count < many → words_of_cards words first size low count + get_or words (first + choose (low + count) size) 0 ≤ words_of_cards words first size low many
+cards_fit words first size low count many l =
+    let q : count + 1 + (many - (count + 1)) ≡ many = omega arith in
+    let e : words_of_cards words first size low (count + 1 + (many - (count + 1))) ≡ words_of_cards words first size low many = ap (λ k. words_of_cards words first size low k) q in
+    omega (arith, cards_more words first size low count, cards_more_le words first size low (count + 1) (many - (count + 1)))
+
+-- ---- from the highest card down
+
+-- the cards from `end` on are passed; `left` members are below them
+pub record Above (n : ℕ) (s words : List ℕ) (start left end first total : ℕ) : Type 0 where
+  pub left_le : left ≤ length s
+  pub end_le : end ≤ n
+  pub low : Below end (take left s)
+  pub high : AtLeast end (drop left s)
+  pub first_is : first ≡ base_of start s left
+  pub total_is : total + sum_by (word words start s) (without (deck end) s) ≡ above_sum n words start s
+
+pub above_start : (n : ℕ) (s words : List ℕ) (start index : ℕ) → IsSet n s → index ≡ set_index s → Above n s words start (length s) n (start + index) 0
+unfolding base_of
+above_start n s words start index g e =
+    let all : take (length s) s ≡ s = take-length s in
+    let none : drop (length s) s ≡ [] = drop_past (length s) s (omega arith) in
+    record {
+      left_le = omega arith;
+      end_le = omega arith;
+      low = subst (λ z. Below n z) (sym all) (set_below n s g);
+      high = subst (λ z. AtLeast n z) (sym none) tt;
+      first_is =
+          let a : index_from 0 (take (length s) s) ≡ index_from 0 s = ap (λ z. index_from 0 z) all in
+          let b : index_from (suc (length s)) (drop (length s) s) ≡ 0 = ap (λ z. index_from (suc (length s)) z) none ∙ index-none (suc (length s)) in
+          omega (arith, index_is s);
+      total_is = omega (arith, above_is n words start s);
+    }
+
+below_member : (s : List ℕ) (i : ℕ) → IsRising s → i < length s → Below (get_or s i 0) (take i s)
+below_member [] i r l = absurd (omega arith)
+below_member (c ∷ s) zero r l = tt
+below_member (c ∷ s) (suc i) r l = (above_at c s i r.0 (omega arith), below_member s i r.1 (omega arith))
+
+at_least_le : (a b : ℕ) (s : List ℕ) → a ≤ b → AtLeast b s → AtLeast a s
+at_least_le a b [] l h = tt
+at_least_le a b (c ∷ s) l h = (let m : b ≤ c = h.0 in omega arith, at_least_le a b s l h.1)
+
+-- where the next set stands, by other names
+pub above_as : (n : ℕ) (s words : List ℕ) (start left end first total first' total' : ℕ) → first' ≡ first → total' ≡ total → Above n s words start left end first total → Above n s words start left end first' total'
+above_as n s words start left end first total first' total' p q h = record {
+  left_le = h.left_le;
+  end_le = h.end_le;
+  low = h.low;
+  high = h.high;
+  first_is = p ∙ h.first_is;
+  total_is = omega (arith, h.total_is);
 }
+
+-- what is known of the cards between a member and the end
+pub record Piece (n : ℕ) (s words : List ℕ) (start left fewer end first total member : ℕ) : Type 0 where
+  pub member_lt : member < end
+  pub within : (c : ℕ) → member + 1 ≤ c → c < end → first + choose c (left + 1) < length words
+  pub fits : total + words_of_cards words first (left + 1) (member + 1) (end - (member + 1)) ≤ above_sum n words start s
+  pub enough : choose member left ≤ first
+  pub next_small : base_of start s fewer ≤ start + 4591650240
+  pub first_is : first - choose member left + choose member (left + 1) ≡ base_of start s fewer
+  pub next : Above n s words start fewer member (base_of start s fewer) (total + words_of_cards words first (left + 1) (member + 1) (end - (member + 1)))
+
+pub piece : (n : ℕ) (s words : List ℕ) (start left fewer end first total : ℕ) → n ≤ 54 → length s ≤ 4 → IsSet n s → start + choose n (length s + 1) ≤ length words → left ≡ fewer + 1
+    → Above n s words start left end first total → Piece n s words start left fewer end first total (get_or s fewer 0)
+unfolding base_of
+piece n s words start left fewer end first total narrow few g room one h = record {
+  member_lt = member_lt;
+  within = λ c a b. subst (λ i. i + choose c (left + 1) < length words) (sym h.first_is) (between_room n s words start left c g (omega (arith, h.end_le)) room (between c a b));
+  fits = omega (arith, whole);
+  enough = omega (arith, here, ways, h.first_is);
+  next_small = base_small start s fewer (below_more n 54 s narrow (set_below n s g)) few (omega (arith, h.left_le));
+  first_is = omega (arith, here, there, ways, more_ways, h.first_is);
+  next = record {
+    left_le = omega (arith, h.left_le);
+    end_le = omega (arith, member_lt, h.end_le);
+    low = below_member s fewer rising inside;
+    high = subst (λ z. AtLeast m z) (sym cut) (omega arith, at_least_le m end (drop (suc fewer) s) (omega (arith, member_lt)) (subst (λ i. AtLeast end (drop i s)) is_suc h.high));
+    first_is = refl;
+    total_is = omega (arith, whole);
+  };
+}
+  where
+    m : ℕ
+    m = get_or s fewer 0
+
+    is_suc : left ≡ suc fewer
+    is_suc = one ∙ add-one fewer
+
+    inside : fewer < length s
+    inside = omega (arith, h.left_le)
+
+    rising : IsRising s
+    rising = set_rises n s g
+
+    longer : take left s ≡ take fewer s ++ m ∷ []
+    longer = ap (λ i. take i s) is_suc ∙ take-suc s fewer 0 inside
+
+    cut : drop fewer s ≡ m ∷ drop (suc fewer) s
+    cut = drop-cons s fewer 0 inside
+
+    member_lt : m < end
+    member_lt = subst (λ x. x < end) (get_or-take left s fewer 0 (omega arith)) (below_at end (take left s) fewer h.low (omega (arith, length-take-le left s h.left_le)))
+
+    between : (c : ℕ) → m + 1 ≤ c → c < end → Between s left c
+    between c a b = record {
+      at_le = h.left_le;
+      low = subst (λ z. Below c z) (sym longer) (below_push c m (take fewer s) (below_more m c (take fewer s) (omega arith) (below_member s fewer rising inside)) (omega arith));
+      high = at_least_le (suc c) end (drop left s) (omega arith) h.high;
+    }
+
+    count : ℕ
+    count = end - (m + 1)
+
+    to_end : m + 1 + count ≡ end
+    to_end = omega (arith, member_lt)
+
+    word_here : (c : ℕ) → m + 1 ≤ c → c < m + 1 + count → word words start s c ≡ get_or words (first + choose c (left + 1)) 0
+    word_here c a b =
+        word_is s words start c
+        ∙ ap (λ i. get_or words i 0) (between_index start s left c (between c a (omega (arith, to_end))))
+        ∙ ap (λ i. get_or words (i + choose c (left + 1)) 0) (sym h.first_is)
+
+    splits : sum_by (word words start s) (without (deck end) s) ≡ sum_by (word words start s) (without (deck m) s) + words_of_cards words first (left + 1) (m + 1) count
+    splits =
+        ap (λ i. sum_by (word words start s) (without (deck i) s)) (sym to_end)
+        ∙ run_splits (word words start s) s (m + 1) count (λ c a b. between_absent s left c (between c a (omega (arith, to_end))))
+        ∙ ap (λ x. x + sum_by (word words start s) (range_with_len (m + 1) count)) (ap (λ i. sum_by (word words start s) (without (deck i) s)) (add-one m) ∙ ap (λ z. sum_by (word words start s) z) (without_member m s (member_at s fewer inside)))
+        ∙ ap (λ x. sum_by (word words start s) (without (deck m) s) + x) (run_agrees (word words start s) (λ c. get_or words (first + choose c (left + 1)) 0) (m + 1) count word_here ∙ sym (cards_are words first (left + 1) (m + 1) count))
+
+    whole : (total + words_of_cards words first (left + 1) (m + 1) count) + sum_by (word words start s) (without (deck m) s) ≡ above_sum n words start s
+    whole = omega (arith, h.total_is, splits)
+
+    here : index_from 0 (take left s) ≡ index_from 0 (take fewer s) + choose m (suc fewer)
+    here = ap (λ i. index_from 0 (take i s)) is_suc ∙ index_take s fewer inside
+
+    there : index_from (suc fewer) (drop fewer s) ≡ choose m (suc (suc fewer)) + index_from (suc left) (drop left s)
+    there = ap (λ z. index_from (suc fewer) z) cut ∙ index-cons (suc fewer) m (drop (suc fewer) s) ∙ ap (λ i. choose m (suc (suc fewer)) + index_from (suc i) (drop i s)) (sym is_suc)
+
+    ways : choose m left ≡ choose m (suc fewer)
+    ways = ap (λ i. choose m i) is_suc
+
+    more_ways : choose m (left + 1) ≡ choose m (suc (suc fewer))
+    more_ways = ap (λ i. choose m i) (omega (arith, is_suc))
+
+-- ---- below the first member
+
+-- an index with later columns is no greater than the number of sets
+index_le : (j n : ℕ) (s : List ℕ) → IsRising s → Below n s → index_from j s ≤ choose n (j + length s)
+index_le j zero [] r b = omega (arith, index-none j)
+index_le j zero (c ∷ s) r b = absurd (let l : c < 0 = b.0 in omega arith)
+index_le j (suc n) s r b =
+    let e : (Below n s) ⊎ Topped n s = top_cases n s r b in
+    elim e [
+      | inl h ↦ omega (arith, index_le j n s r h, choose_up n (j + length s))
+      | inr t ↦ topped t (index_le j n t.rest t.rises t.below)
+    ]
+  where
+    topped : (t : Topped n s) → index_from j t.rest ≤ choose n (j + length t.rest) → index_from j s ≤ choose (suc n) (j + length s)
+    topped t ih =
+        let k : ℕ = j + length t.rest in
+        let a : index_from j s ≡ index_from j t.rest + index_from k (n ∷ []) = ap (λ z. index_from j z) t.is ∙ index-append j t.rest (n ∷ []) in
+        let b : index_from k (n ∷ []) ≡ choose n (suc k) = omega (arith, index-cons k n [], index-none (suc k)) in
+        let long : length s ≡ length t.rest + 1 = ap length t.is ∙ length-append t.rest (n ∷ []) in
+        let d : choose (suc n) (j + length s) ≡ choose (suc n) (suc k) = ap (λ i. choose (suc n) i) (omega arith) in
+        omega (arith, choose-suc n k)
+
+one_way : (c : ℕ) → choose c 1 ≡ c
+one_way zero = choose-none 0
+one_way (suc c) = omega (arith, choose-suc c 0, choose-zero c, one_way c)
+
+sum_of_run : (words : List ℕ) (first k : ℕ) → first + k ≤ length words → sum_by (λ c. get_or words (first + choose c 1) 0) (range_with_len 0 k) ≡ sum (take k (drop first words))
+sum_of_run words first zero l = refl
+sum_of_run words first (suc k) l =
+    let f : ℕ → ℕ = λ c. get_or words (first + choose c 1) 0 in
+    let a : sum_by f (range_with_len 0 (suc k)) ≡ sum_by f (range_with_len 0 k) + f (0 + k) = ap (λ z. sum_by f z) (range_push 0 k) ∙ sum_by_push f (range_with_len 0 k) (0 + k) in
+    let b : f (0 + k) ≡ get_or (drop first words) k 0 = ap (λ i. get_or words (first + i) 0) (one_way (0 + k) ∙ omega arith) ∙ sym (get_or-drop first words k 0) in
+    let d : sum (take (suc k) (drop first words)) ≡ sum (take k (drop first words)) + get_or (drop first words) k 0 =
+    ap (λ z. sum z) (take-suc (drop first words) k 0 (omega (arith, length-drop first words))) ∙ sum_by_push (λ x. x) (take k (drop first words)) (get_or (drop first words) k 0) in
+    omega (arith, sum_of_run words first k (omega arith))
+
+no_cards : (f : ℕ → ℕ) (s : List ℕ) → sum_by f (without (deck 0) s) ≡ 0
+unfolding deck without
+no_cards f s = refl
+
+-- what is known of the cards below the first member
+pub record Rest (n : ℕ) (s words : List ℕ) (start end first total : ℕ) : Type 0 where
+  pub room : first + end ≤ length words
+  pub whole : total + sum (take end (drop first words)) ≡ above_sum n words start s
+
+pub rest : (n : ℕ) (s words : List ℕ) (start left end first total : ℕ) → IsSet n s → start + choose n (length s + 1) ≤ length words → left ≡ 0 → Above n s words start left end first total → Rest n s words start end first total
+unfolding base_of
+rest n s words start left end first total g room none h = record { room = fits; whole = omega (arith, h.total_is, all) }
+  where
+    at : first ≡ base_of start s 0
+    at = h.first_is ∙ ap (λ i. base_of start s i) none
+
+    between : (c : ℕ) → c < end → Between s 0 c
+    between c l = record {
+      at_le = omega arith;
+      low = subst (λ z. Below c z) (sym (take_nothing s)) tt;
+      high = at_least_le (suc c) end (drop 0 s) (omega arith) (subst (λ i. AtLeast end (drop i s)) none h.high);
+    }
+
+    by_end : (end ≡ 0) ⊎ (end ≡ 0 → ⊥) → first + end ≤ length words
+    by_end (inl e) =
+        let a : index_from 1 s ≤ choose n (1 + length s) = index_le 1 n s (set_rises n s g) (set_below n s g) in
+        let b : choose n (1 + length s) ≡ choose n (length s + 1) = ap (λ i. choose n i) (omega arith) in
+        let d : index_from 0 (take 0 s) ≡ 0 = ap (λ z. index_from 0 z) (take_nothing s) ∙ index-none 0 in
+        let e2 : index_from 1 (drop 0 s) ≡ index_from 1 s = ap (λ z. index_from 1 z) (drop_nothing s) in
+        omega (arith, at)
+    by_end (inr ne) =
+        let last : base_of start s 0 + choose (end - 1) (0 + 1) < length words = between_room n s words start 0 (end - 1) g (omega (arith, h.end_le)) room (between (end - 1) (omega arith)) in
+        let one : choose (end - 1) (0 + 1) ≡ end - 1 = one_way (end - 1) in
+        omega (arith, at)
+
+    fits : first + end ≤ length words
+    fits = by_end (cases_eq end 0)
+
+    word_here : (c : ℕ) → 0 ≤ c → c < 0 + end → word words start s c ≡ get_or words (first + choose c 1) 0
+    word_here c a b =
+        word_is s words start c
+        ∙ ap (λ i. get_or words i 0) (between_index start s 0 c (between c (omega arith)))
+        ∙ ap (λ i. get_or words (i + choose c 1) 0) (sym at)
+
+    nothing : sum_by (word words start s) (without (deck 0) s) ≡ 0
+    nothing = no_cards (word words start s) s
+
+    all : sum_by (word words start s) (without (deck end) s) ≡ sum (take end (drop first words))
+    all =
+        ap (λ i. sum_by (word words start s) (without (deck i) s)) (sym (zero-add end))
+        ∙ run_splits (word words start s) s 0 end (λ c a b. between_absent s 0 c (between c (omega arith)))
+        ∙ ap (λ x. x + sum_by (word words start s) (range_with_len 0 end)) nothing
+        ∙ zero-add (sum_by (word words start s) (range_with_len 0 end))
+        ∙ run_agrees (word words start s) (λ c. get_or words (first + choose c 1) 0) 0 end word_here
+        ∙ sum_of_run words first end fits

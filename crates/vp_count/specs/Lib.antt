@@ -1,3 +1,5 @@
 pub mod Sums
 pub mod Table
-pub mod Parts
+pub mod HeldMasks
+pub mod Laws
+pub mod Runs

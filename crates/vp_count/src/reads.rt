@@ -38,10 +38,15 @@ impl<'a> Sums for Reads<'a> {
 
     ghost reads = { λ r. r.count };
 
+    #[tactic(auto, unfolding(crate::specs::Sums::one_more))]
     fn at(&mut self, set: &[u8]) -> u64 {
-        if self.count < u64::MAX {
-            self.count += 1;
-        }
+        self.count = self.count.saturating_add(1);
         self.table.at(set)
+    }
+
+    #[tactic(auto, unfolding(crate::specs::Sums::raised_by))]
+    fn held_sums(&mut self, hand: &[u8; 5]) -> [u64; 32] {
+        self.count = self.count.saturating_add(32);
+        self.table.held_sums(hand)
     }
 }

@@ -4,9 +4,10 @@ ghost use Rattle.std.specs.Prelude.{◌≡◌, ◌≤◌, length};
 ghost use Rattle.std.specs.List.{All};
 ghost use Rattle.vp_sets.specs.Sets.{choose};
 ghost use Rattle.vp_sets.specs.Index.{IsSet};
-ghost use Rattle.vp_count.specs.Sums.{containing};
-ghost use Rattle.vp_count.specs.Table.{five_numbers, first_word};
+ghost use Rattle.vp_count.specs.Sums.{AreHeldSums, containing};
+ghost use Rattle.vp_count.specs.Table.{AreStarts, five_numbers, first_word};
 
+use crate::holds::{cards_held, held_indexes};
 use crate::table::{fill_levels, first_word};
 use std::marker::Model;
 use vp_sets::index_of;
@@ -15,17 +16,30 @@ use vp_sets::index_of;
 #[derive(Drop)]
 pub struct SumTable<'a> {
     n: u8,
+    starts: [usize; 6],
     words: &'a [u64],
 }
 
 impl<'a> Model for SumTable<'a> {
-    ghost use Rattle.vp_count.specs.Table.{IsSumTable, Table, table_of};
+    ghost use Rattle.vp_count.specs.Table.{AreStarts, IsSumTable, Table, table_of};
 
     ghost Value = { Table };
 
     ghost view = { λ t. table_of t.n t.words.now };
 
-    ghost invariant = { λ t. IsSumTable t.n t.words.now };
+    ghost invariant = { λ t. IsSumTable t.n t.words.now × AreStarts t.n t.starts };
+}
+
+/// The first word of each size.
+fn starts(n: u8) -> [usize; 6]
+    requires { n ≤ 54 }
+    ensures { AreStarts n result }
+{
+    let mut starts = [0; 6];
+    for k in 0..6u8 {
+        starts[k as usize] = first_word(n, k);
+    }
+    starts
 }
 
 impl<'a> SumTable<'a> {
@@ -40,7 +54,11 @@ impl<'a> SumTable<'a> {
         ensures numbers { result.numbers ≡ five_numbers n words.old }
     {
         fill_levels(n, words);
-        SumTable { n, words }
+        SumTable {
+            n,
+            starts: starts(n),
+            words,
+        }
     }
 
     /// The sum of the numbers of all sets of five that contain the set.
@@ -51,6 +69,23 @@ impl<'a> SumTable<'a> {
         ensures numbered { length self.now.numbers ≡ choose self.now.size 5 }
         ensures bounded { All (λ x. x ≤ 250000000000) self.now.numbers }
     {
-        self.words[first_word(self.n, set.len() as u8) + index_of(set) as usize]
+        self.words[self.starts[set.len()] + index_of(set) as usize]
+    }
+
+    /// For each mask the sum of the numbers of all sets of five that contain the held cards of the hand.
+    pub fn held_sums(&self, hand: &[u8; 5]) -> [u64; 32]
+        requires hand { IsSet self.now.size hand.now }
+        ensures sums { AreHeldSums self.now.size self.now.numbers hand.now result }
+        ensures numbered { length self.now.numbers ≡ choose self.now.size 5 }
+        ensures bounded { All (λ x. x ≤ 250000000000) self.now.numbers }
+    {
+        let words = self.words;
+        let indexes = held_indexes(hand);
+        let mut sums = [0; 32];
+        for mask in 0..32usize {
+            let start = self.starts[cards_held(mask) as usize];
+            sums[mask] = words[start + indexes[mask] as usize];
+        }
+        sums
     }
 }

@@ -1,10 +1,10 @@
 //! The table of the sums of all sets of at most five cards, made from the numbers of the sets of five.
 
-ghost use Rattle.std.specs.Prelude.{◌≡◌, ◌+◌, ◌^◌, ◌<◌, ◌≤◌, ◌↔◌, ℕ, IsTrue, List, length, slice_index};
+ghost use Rattle.std.specs.Prelude.{◌≡◌, ◌+◌, ◌-◌, ◌^◌, ◌<◌, ◌≤◌, ℕ, List, length, sum};
 ghost use Rattle.std.specs.List.{All};
 ghost use Rattle.vp_sets.specs.Sets.{choose};
-ghost use Rattle.vp_sets.specs.Index.{HasIndex, IsSet, index_from};
-ghost use Rattle.vp_count.specs.Table.{HasSums, above_sum, first_word, five_numbers};
+ghost use Rattle.vp_sets.specs.Index.{HasIndex, IsSet, set_index};
+ghost use Rattle.vp_count.specs.Table.{HasSums, above_sum, first_word, five_numbers, words_of_cards};
 
 use vp_sets::{choose, next_set, set_at};
 
@@ -29,51 +29,61 @@ pub(crate) fn first_word(n: u8, k: u8) -> usize
     words
 }
 
-/// What the members add to the index of the set when one more stands in front of them all.
-fn index_behind(set: &[u8]) -> usize
-    requires few { length set.now ≤ 4 }
-    requires set { IsSet 54 set.now }
-    ensures { result ≡ index_from 1 set.now }
+/// The sum of the words.
+fn sum_of(words: &[u64]) -> u64
+    requires { sum words.now < 2 ^ 64 }
+    ensures { result ≡ sum words.now }
 {
-    let mut index = 0;
-    for (place, number) in set.iter().enumerate() {
-        index += choose(*number, place as u8 + 2) as usize;
+    let mut total = 0;
+    for word in words {
+        total += *word;
     }
-    index
+    total
 }
 
-fn stands_at(set: &[u8], place: usize, card: u8) -> bool
-    ensures { IsTrue result ↔ (place < length set.now) × (slice_index set.now place ≡ card) }
+/// The sum of the words at `first` and the number of choices of `size` among the cards below a card, for the cards
+/// from `low` to below `end`.
+fn sum_of_cards(words: &[u64], first: usize, size: u8, low: u8, end: u8) -> u64
+    requires cards { end ≤ 54 }
+    requires order { low ≤ end }
+    requires members { size ≤ 5 }
+    requires within { (c : ℕ) → low ≤ c → c < end → first + choose c size < length words.now }
+    requires small { words_of_cards words.now first size low (end - low) < 2 ^ 64 }
+    ensures { result ≡ words_of_cards words.now first size low (end - low) }
 {
-    place < set.len() && set[place] == card
+    let mut total = 0;
+    for card in low..end {
+        total += words[first + choose(card, size) as usize];
+    }
+    total
 }
 
-/// The sum of the words of the sets that have one member more; `start` is the first word of their size.
-/// One pass over the cards: `front` is what the members before the card add to the index, `back` what those behind it
-/// add.
-fn sum_above(n: u8, set: &[u8], words: &[u64], start: usize) -> u64
+/// The sum of the words of the sets that have one member more than the set with this index; `start` is the first word
+/// of their size. From the highest card down to each member: `first` is where the set with one more card stands, but
+/// for what that card adds to the index.
+fn sum_above(n: u8, set: &[u8], index: usize, words: &[u64], start: usize) -> u64
     requires deck { n ≤ 54 }
     requires few { length set.now ≤ 4 }
     requires set { IsSet n set.now }
+    requires index { index ≡ set_index set.now }
     requires room { start + choose n (length set.now + 1) ≤ length words.now }
     requires small { above_sum n words.now start set.now < 2 ^ 64 }
     ensures { result ≡ above_sum n words.now start set.now }
 {
-    let mut place = 0;
-    let mut front = 0;
-    let mut back = index_behind(set);
+    let mut first = start + index;
     let mut total = 0;
-    for card in 0..n {
-        let ways = choose(card, place as u8 + 1) as usize;
-        if stands_at(set, place, card) {
-            front += ways;
-            back -= choose(card, place as u8 + 2) as usize;
-            place += 1;
-        } else {
-            total += words[start + (front + ways + back)];
-        }
+    let mut end = n;
+    let mut left = set.len();
+    while left > 0 {
+        let member = set[left - 1];
+        let size = left as u8;
+        total += sum_of_cards(words, first, size + 1, member + 1, end);
+        first = first - choose(member, size) as usize + choose(member, size + 1) as usize;
+        end = member;
+        left -= 1;
     }
-    total
+    // Below the first member the words stand one behind the other.
+    total + sum_of(&words[first..first + end as usize])
 }
 
 /// Makes the words of the sets of as many members as `set`, which is the first of them.
@@ -91,7 +101,7 @@ fn fill_sets(n: u8, set: &mut [u8], words: &mut [u64])
     let above = first_word(n, members + 1);
     let others = 5 - u64::from(members);
     for i in 0..choose(n, members) as usize {
-        words[start + i] = sum_above(n, set, words, above) / others;
+        words[start + i] = sum_above(n, set, i, words, above) / others;
         next_set(n, set);
     }
 }

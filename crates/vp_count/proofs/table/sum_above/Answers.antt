@@ -1,56 +1,82 @@
-use Rattle.std.proofs.Common.{◌+◌, ◌-◌, get_or, refl, ◌∙◌, ap, arith}
-use Rattle.std.proofs.lemmas.Bool.{false≢true}
-use Rattle.vp_sets.specs.Sets.{choose}
+use Rattle.std.proofs.Common.{◌≡◌, ◌+◌, ◌-◌, ◌≤◌, ap, arith, get_or, length, take, drop}
+use Rattle.std.specs.List.{sum}
 use Rattle.vp_sets.proofs.Binomials.{choose_small}
-use Rattle.vp_sets.proofs.Colex.{below_more, set_rises, set_below}
-use Rattle.vp_count.proofs.Scan.{scan_start, scan_member, scan_back, scan_free, scan_front, scan_behind, scan_room, scan_fits, scan_done, scan_alike}
+use Rattle.vp_count.proofs.Scan.{Piece, Rest, above_start, above_as, index_below, piece, rest}
 use Rattle.vp_count.proofs.table.sum_above.Goals as goal
-use Rattle.vp_count.proofs.table.sum_above.Goals.{then-stands_at, else-stands_at}
 
-pub loop-card-init : goal.loop-card-init
-loop-card-init c = scan_start c.args.set.now c.args.words.now c.args.start c.index_behind-back.result c.index_behind-back.ensures
+pub overflow_add-first : goal.overflow_add-first
+overflow_add-first c = omega (arith, c.requires.room, c.requires.index, index_below c.args.n c.args.set.now c.requires.set, choose_small c.args.n (length c.args.set.now) c.requires.deck (omega (arith, c.requires.few)))
 
-pub overflow_add-front : goal.overflow_add-front
-overflow_add-front c = omega (arith, c.choose-ways.ensures, scan_front c.args.set.now c.args.words.now c.args.start c.loop-card.card c.loop-card.place c.loop-card.front c.loop-card.back c.loop-card.total (below_more c.args.n 54 c.args.set.now c.requires.deck (set_below c.args.n c.args.set.now c.requires.set)) c.requires.few c.loop-card.invariant, choose_small c.loop-card.card (c.loop-card.place + 1) (omega arith) (omega arith))
+pub loop-left-init : goal.loop-left-init
+loop-left-init c = above_start c.args.n c.args.set.now c.args.words.now c.args.start c.args.index c.requires.set c.requires.index
 
-pub overflow_sub-back : goal.overflow_sub-back
-overflow_sub-back c =
-    let k = c.if-stands_at.ensures.0 refl in
-    omega (arith, c.choose.ensures, scan_back c.args.set.now c.args.words.now c.args.start c.loop-card.card c.loop-card.place c.loop-card.front c.loop-card.back c.loop-card.total c.loop-card.invariant k.0 k.1)
+pub sum_of_cards-total-requires-clause-within : goal.sum_of_cards-total-requires-clause-within
+sum_of_cards-total-requires-clause-within c =
+    let one : Piece c.args.n c.args.set.now c.args.words.now c.args.start c.loop-left.left (c.loop-left.left - 1) c.loop-left.end c.loop-left.first c.loop-left.total (get_or c.args.set.now (c.loop-left.left - 1) 0) = piece _ _ _ _ _ _ _ _ _ c.requires.deck c.requires.few c.requires.set c.requires.room (omega (arith, c.loop-left-test.true)) c.loop-left.invariant in
+    one.within
+
+pub sum_of_cards-total-requires-clause-order : goal.sum_of_cards-total-requires-clause-order
+sum_of_cards-total-requires-clause-order c =
+    let one : Piece c.args.n c.args.set.now c.args.words.now c.args.start c.loop-left.left (c.loop-left.left - 1) c.loop-left.end c.loop-left.first c.loop-left.total (get_or c.args.set.now (c.loop-left.left - 1) 0) = piece _ _ _ _ _ _ _ _ _ c.requires.deck c.requires.few c.requires.set c.requires.room (omega (arith, c.loop-left-test.true)) c.loop-left.invariant in
+    omega (arith, one.member_lt)
+
+pub sum_of_cards-total-requires-clause-small : goal.sum_of_cards-total-requires-clause-small
+sum_of_cards-total-requires-clause-small c =
+    let one : Piece c.args.n c.args.set.now c.args.words.now c.args.start c.loop-left.left (c.loop-left.left - 1) c.loop-left.end c.loop-left.first c.loop-left.total (get_or c.args.set.now (c.loop-left.left - 1) 0) = piece _ _ _ _ _ _ _ _ _ c.requires.deck c.requires.few c.requires.set c.requires.room (omega (arith, c.loop-left-test.true)) c.loop-left.invariant in
+    omega (arith, one.fits, c.requires.small)
 
 pub overflow_add-total : goal.overflow_add-total
-overflow_add-total c = omega (arith, c.choose-ways.ensures, scan_front c.args.set.now c.args.words.now c.args.start c.loop-card.card c.loop-card.place c.loop-card.front c.loop-card.back c.loop-card.total (below_more c.args.n 54 c.args.set.now c.requires.deck (set_below c.args.n c.args.set.now c.requires.set)) c.requires.few c.loop-card.invariant, choose_small c.loop-card.card (c.loop-card.place + 1) (omega arith) (omega arith))
+overflow_add-total c =
+    let one : Piece c.args.n c.args.set.now c.args.words.now c.args.start c.loop-left.left (c.loop-left.left - 1) c.loop-left.end c.loop-left.first c.loop-left.total (get_or c.args.set.now (c.loop-left.left - 1) 0) = piece _ _ _ _ _ _ _ _ _ c.requires.deck c.requires.few c.requires.set c.requires.room (omega (arith, c.loop-left-test.true)) c.loop-left.invariant in
+    omega (arith, one.fits, c.sum_of_cards-total.ensures, c.requires.small)
 
-pub overflow_add-total-else-stands_at : goal.overflow_add-total-else-stands_at
-overflow_add-total-else-stands_at c = omega (arith, c.choose-ways.ensures, scan_front c.args.set.now c.args.words.now c.args.start c.loop-card.card c.loop-card.place c.loop-card.front c.loop-card.back c.loop-card.total (below_more c.args.n 54 c.args.set.now c.requires.deck (set_below c.args.n c.args.set.now c.requires.set)) c.requires.few c.loop-card.invariant, scan_behind c.args.set.now c.args.words.now c.args.start c.loop-card.card c.loop-card.place c.loop-card.front c.loop-card.back c.loop-card.total (below_more c.args.n 54 c.args.set.now c.requires.deck (set_below c.args.n c.args.set.now c.requires.set)) c.requires.few c.loop-card.invariant, choose_small c.loop-card.card (c.loop-card.place + 1) (omega arith) (omega arith))
+pub overflow_sub-first : goal.overflow_sub-first
+overflow_sub-first c =
+    let one : Piece c.args.n c.args.set.now c.args.words.now c.args.start c.loop-left.left (c.loop-left.left - 1) c.loop-left.end c.loop-left.first c.loop-left.total (get_or c.args.set.now (c.loop-left.left - 1) 0) = piece _ _ _ _ _ _ _ _ _ c.requires.deck c.requires.few c.requires.set c.requires.room (omega (arith, c.loop-left-test.true)) c.loop-left.invariant in
+    omega (arith, one.enough, c.choose.ensures)
 
-pub bounds-words-start : goal.bounds-words-start
-bounds-words-start c = omega (arith, c.choose-ways.ensures, c.requires.room, scan_room c.args.n c.args.set.now c.args.words.now c.args.start c.loop-card.card c.loop-card.place c.loop-card.front c.loop-card.back c.loop-card.total c.requires.set c.loop-card-test.true c.loop-card.invariant (λ l e. false≢true (c.if-stands_at.ensures.1 (l, e))))
+pub overflow_add-first-in-loop-left : goal.overflow_add-first-in-loop-left
+overflow_add-first-in-loop-left c =
+    let one : Piece c.args.n c.args.set.now c.args.words.now c.args.start c.loop-left.left (c.loop-left.left - 1) c.loop-left.end c.loop-left.first c.loop-left.total (get_or c.args.set.now (c.loop-left.left - 1) 0) = piece _ _ _ _ _ _ _ _ _ c.requires.deck c.requires.few c.requires.set c.requires.room (omega (arith, c.loop-left-test.true)) c.loop-left.invariant in
+    omega (arith, one.first_is, one.next_small, c.choose.ensures, c.choose-in-loop-left.ensures, c.requires.room)
 
-pub overflow_add-total-else-stands_at-2 : goal.overflow_add-total-else-stands_at-2
-overflow_add-total-else-stands_at-2 c = omega (arith, c.choose-ways.ensures, c.requires.room, scan_room c.args.n c.args.set.now c.args.words.now c.args.start c.loop-card.card c.loop-card.place c.loop-card.front c.loop-card.back c.loop-card.total c.requires.set c.loop-card-test.true c.loop-card.invariant (λ l e. false≢true (c.if-stands_at.ensures.1 (l, e))))
+pub loop-left-preserved : goal.loop-left-preserved
+loop-left-preserved c =
+    let one : Piece c.args.n c.args.set.now c.args.words.now c.args.start c.loop-left.left (c.loop-left.left - 1) c.loop-left.end c.loop-left.first c.loop-left.total (get_or c.args.set.now (c.loop-left.left - 1) 0) = piece _ _ _ _ _ _ _ _ _ c.requires.deck c.requires.few c.requires.set c.requires.room (omega (arith, c.loop-left-test.true)) c.loop-left.invariant in
+    above_as _ _ _ _ _ _ _ _ _ _ (omega (arith, one.first_is, c.choose.ensures, c.choose-in-loop-left.ensures)) (ap (λ v. c.loop-left.total + v) c.sum_of_cards-total.ensures) one.next
 
-pub offset_bounds-words-start : goal.offset_bounds-words-start
-offset_bounds-words-start c = omega (arith, c.choose-ways.ensures, c.requires.room, scan_room c.args.n c.args.set.now c.args.words.now c.args.start c.loop-card.card c.loop-card.place c.loop-card.front c.loop-card.back c.loop-card.total c.requires.set c.loop-card-test.true c.loop-card.invariant (λ l e. false≢true (c.if-stands_at.ensures.1 (l, e))))
+pub overflow_add-first-2 : goal.overflow_add-first-2
+overflow_add-first-2 c =
+    let low : Rest c.args.n c.args.set.now c.args.words.now c.args.start c.loop-left.end c.loop-left.first c.loop-left.total = rest _ _ _ _ c.loop-left.left _ _ _ c.requires.set c.requires.room (omega (arith, c.loop-left-test.false)) c.loop-left.invariant in
+    omega (arith, low.room)
 
-pub overflow_add-total-else-stands_at-3 : goal.overflow_add-total-else-stands_at-3
-overflow_add-total-else-stands_at-3 c =
-    let e = ap (λ v. get_or c.args.words.now (c.args.start + (c.loop-card.front + v + c.loop-card.back)) 0) c.choose-ways.ensures in
-    omega (arith, c.requires.small, e, scan_fits c.args.n c.args.set.now c.args.words.now c.args.start c.loop-card.card c.loop-card.place c.loop-card.front c.loop-card.back c.loop-card.total c.requires.set c.loop-card-test.true c.loop-card.invariant (λ l e. false≢true (c.if-stands_at.ensures.1 (l, e))))
+pub offset_bounds-words-first : goal.offset_bounds-words-first
+offset_bounds-words-first c =
+    let low : Rest c.args.n c.args.set.now c.args.words.now c.args.start c.loop-left.end c.loop-left.first c.loop-left.total = rest _ _ _ _ c.loop-left.left _ _ _ c.requires.set c.requires.room (omega (arith, c.loop-left-test.false)) c.loop-left.invariant in
+    omega (arith, low.room)
 
-pub loop-card-preserved : goal.loop-card-preserved
-loop-card-preserved c = elim c.if-stands_at.branch [
-  | then-stands_at w ↦ let k = w.if-stands_at.ensures.0 refl in
-      scan_alike c.args.set.now c.args.words.now c.args.start (c.loop-card.card + 1) (c.loop-card.place + 1) (c.loop-card.front + choose c.loop-card.card (c.loop-card.place + 1)) (c.loop-card.back - choose c.loop-card.card (c.loop-card.place + 2)) c.loop-card.total
-      c.if-stands_at.place c.if-stands_at.front c.if-stands_at.back c.if-stands_at.total
-      (scan_member c.args.set.now c.args.words.now c.args.start c.loop-card.card c.loop-card.place c.loop-card.front c.loop-card.back c.loop-card.total (set_rises c.args.n c.args.set.now c.requires.set) c.loop-card.invariant k.0 k.1)
-      w.place-is (w.front-is ∙ ap (λ v. c.loop-card.front + v) c.choose-ways.ensures) (w.back-is ∙ ap (λ v. c.loop-card.back - v) w.choose.ensures) w.total-is
-  | else-stands_at w ↦
-      scan_alike c.args.set.now c.args.words.now c.args.start (c.loop-card.card + 1) c.loop-card.place c.loop-card.front c.loop-card.back (c.loop-card.total + get_or c.args.words.now (c.args.start + (c.loop-card.front + choose c.loop-card.card (c.loop-card.place + 1) + c.loop-card.back)) 0)
-      c.if-stands_at.place c.if-stands_at.front c.if-stands_at.back c.if-stands_at.total
-      (scan_free c.args.set.now c.args.words.now c.args.start c.loop-card.card c.loop-card.place c.loop-card.front c.loop-card.back c.loop-card.total (set_rises c.args.n c.args.set.now c.requires.set) c.loop-card.invariant (λ l e. false≢true (w.if-stands_at.ensures.1 (l, e))))
-      w.place-is w.front-is w.back-is (w.total-is ∙ ap (λ v. c.loop-card.total + get_or c.args.words.now (c.args.start + (c.loop-card.front + v + c.loop-card.back)) 0) c.choose-ways.ensures)
-]
+pub slice_bounds-sum_of-end : goal.slice_bounds-sum_of-end
+slice_bounds-sum_of-end c =
+    let low : Rest c.args.n c.args.set.now c.args.words.now c.args.start c.loop-left.end c.loop-left.first c.loop-left.total = rest _ _ _ _ c.loop-left.left _ _ _ c.requires.set c.requires.room (omega (arith, c.loop-left-test.false)) c.loop-left.invariant in
+    low.room
+
+pub sum_of-requires : goal.sum_of-requires
+sum_of-requires c =
+    let low : Rest c.args.n c.args.set.now c.args.words.now c.args.start c.loop-left.end c.loop-left.first c.loop-left.total = rest _ _ _ _ c.loop-left.left _ _ _ c.requires.set c.requires.room (omega (arith, c.loop-left-test.false)) c.loop-left.invariant in
+    let many : c.loop-left.first + c.loop-left.end - c.loop-left.first ≡ c.loop-left.end = omega arith in
+    let same : sum (take (c.loop-left.first + c.loop-left.end - c.loop-left.first) (drop c.loop-left.first c.args.words.now)) ≡ sum (take c.loop-left.end (drop c.loop-left.first c.args.words.now)) = ap (λ k. sum (take k (drop c.loop-left.first c.args.words.now))) many in
+    omega (arith, low.whole, same, c.requires.small)
+
+pub overflow_add-result : goal.overflow_add-result
+overflow_add-result c =
+    let low : Rest c.args.n c.args.set.now c.args.words.now c.args.start c.loop-left.end c.loop-left.first c.loop-left.total = rest _ _ _ _ c.loop-left.left _ _ _ c.requires.set c.requires.room (omega (arith, c.loop-left-test.false)) c.loop-left.invariant in
+    let many : c.loop-left.first + c.loop-left.end - c.loop-left.first ≡ c.loop-left.end = omega arith in
+    let same : sum (take (c.loop-left.first + c.loop-left.end - c.loop-left.first) (drop c.loop-left.first c.args.words.now)) ≡ sum (take c.loop-left.end (drop c.loop-left.first c.args.words.now)) = ap (λ k. sum (take k (drop c.loop-left.first c.args.words.now))) many in
+    omega (arith, low.whole, same, c.sum_of.ensures, c.requires.small)
 
 pub returns : goal.returns
-returns c = scan_done c.args.n c.args.set.now c.args.words.now c.args.start c.loop-card.card c.loop-card.place c.loop-card.front c.loop-card.back c.loop-card.total (omega arith) c.loop-card.invariant
+returns c =
+    let low : Rest c.args.n c.args.set.now c.args.words.now c.args.start c.loop-left.end c.loop-left.first c.loop-left.total = rest _ _ _ _ c.loop-left.left _ _ _ c.requires.set c.requires.room (omega (arith, c.loop-left-test.false)) c.loop-left.invariant in
+    let many : c.loop-left.first + c.loop-left.end - c.loop-left.first ≡ c.loop-left.end = omega arith in
+    let same : sum (take (c.loop-left.first + c.loop-left.end - c.loop-left.first) (drop c.loop-left.first c.args.words.now)) ≡ sum (take c.loop-left.end (drop c.loop-left.first c.args.words.now)) = ap (λ k. sum (take k (drop c.loop-left.first c.args.words.now))) many in
+    omega (arith, low.whole, same, c.sum_of.ensures)

@@ -8,7 +8,7 @@ empty (x ∷ s) h = absurd (omega arith)
 
 pub returns-in_default-clause-total : goal.returns-in_default-clause-total
 returns-in_default-clause-total g t c =
-    leaf_total (g.T.Sums.size c.args.sums.now) (g.T.Sums.numbers c.args.sums.now) (take c.args.count c.args.held) c.args.rest.now c.args.mask c.at.result (empty c.args.rest.now c.in_default.ensures.cases) c.at.ensures.sum
+    leaf_total (g.T.Sums.size c.args.sums.now) (g.T.Sums.numbers c.args.sums.now) (take c.args.count c.args.chosen) c.args.rest.now c.args.mask c.at.result (empty c.args.rest.now c.in_default.ensures.cases) c.at.ensures.sum
 
 pub returns-in_default-clause-reads : goal.returns-in_default-clause-reads
 returns-in_default-clause-reads g t c =
@@ -16,7 +16,7 @@ returns-in_default-clause-reads g t c =
 
 pub returns-then-mask-eq1-clause-total : goal.returns-then-mask-eq1-clause-total
 returns-then-mask-eq1-clause-total g t c =
-    held_step (g.T.Sums.size c.args.sums.now) (g.T.Sums.numbers c.args.sums.now) c.args.held c.args.count c.in-Some.card.now c.in-Some.later.now c.args.rest.now c.args.mask c.held_part.result (omega (arith, c.in-Some.ensures.cases.1)) c.in-Some.ensures.cases.0 c.if-mask-eq1.true c.held_part.ensures.total
+    held_step (g.T.Sums.size c.args.sums.now) (g.T.Sums.numbers c.args.sums.now) c.args.chosen c.args.count c.in-Some.card.now c.in-Some.later.now c.args.rest.now c.args.mask c.held_part.result (omega (arith, c.in-Some.ensures.cases.1)) c.in-Some.ensures.cases.0 c.if-mask-eq1.true c.held_part.ensures.total
 
 pub returns-then-mask-eq1-clause-reads : goal.returns-then-mask-eq1-clause-reads
 returns-then-mask-eq1-clause-reads g t c =
@@ -24,12 +24,12 @@ returns-then-mask-eq1-clause-reads g t c =
 
 pub held_part-free-requires : goal.held_part-free-requires
 held_part-free-requires g t c κs within =
-    (search rules, (search rules, (omega (arith, c.in-Some.ensures.cases.1), set_without (g.T.Sums.size c.args.sums.now) (take c.args.count c.args.held) c.in-Some.card.now c.in-Some.later.now c.args.rest.now c.in-Some.ensures.cases.0 c.requires.set)))
+    (search rules, (search rules, (omega (arith, c.in-Some.ensures.cases.1), set_without (g.T.Sums.size c.args.sums.now) (take c.args.count c.args.chosen) c.in-Some.card.now c.in-Some.later.now c.args.rest.now c.in-Some.ensures.cases.0 c.requires.set)))
 
 pub overflow_sub-result : goal.overflow_sub-result
 overflow_sub-result g t c = omega (
   arith,
-  discard_sum (g.T.Sums.size c.args.sums.now) (g.T.Sums.numbers c.args.sums.now) c.args.held c.args.count c.in-Some.card.now c.in-Some.later.now c.args.rest.now c.args.mask c.held_part-free.result c.held_part-2.result
+  discard_sum (g.T.Sums.size c.args.sums.now) (g.T.Sums.numbers c.args.sums.now) c.args.chosen c.args.count c.in-Some.card.now c.in-Some.later.now c.args.rest.now c.args.mask c.held_part-free.result c.held_part-2.result
       (g.T.Sums.size c.held_part-free.new.sums) (g.T.Sums.numbers c.held_part-free.new.sums) c.held_part-free.ensures.same_size c.held_part-free.ensures.same_numbers
       (omega (arith, c.in-Some.ensures.cases.1)) c.in-Some.ensures.cases.0 c.if-mask-eq1.false c.held_part-free.ensures.total c.held_part-2.ensures.total,
 )
@@ -37,7 +37,7 @@ overflow_sub-result g t c = omega (
 pub returns-clause-total : goal.returns-clause-total
 returns-clause-total g t c = omega (
   arith,
-  discard_sum (g.T.Sums.size c.args.sums.now) (g.T.Sums.numbers c.args.sums.now) c.args.held c.args.count c.in-Some.card.now c.in-Some.later.now c.args.rest.now c.args.mask c.held_part-free.result c.held_part-2.result
+  discard_sum (g.T.Sums.size c.args.sums.now) (g.T.Sums.numbers c.args.sums.now) c.args.chosen c.args.count c.in-Some.card.now c.in-Some.later.now c.args.rest.now c.args.mask c.held_part-free.result c.held_part-2.result
       (g.T.Sums.size c.held_part-free.new.sums) (g.T.Sums.numbers c.held_part-free.new.sums) c.held_part-free.ensures.same_size c.held_part-free.ensures.same_numbers
       (omega (arith, c.in-Some.ensures.cases.1)) c.in-Some.ensures.cases.0 c.if-mask-eq1.false c.held_part-free.ensures.total c.held_part-2.ensures.total,
 )

@@ -1,9 +1,9 @@
-use Rattle.std.proofs.Common.{◌≡◌, ◌<◌, ℕ, List, length, get_or, refl, ap, sym, ◌∙◌, arith}
+use Rattle.std.proofs.Common.{◌≡◌, ◌+◌, ◌<◌, ◌≤◌, ℕ, List, length, get_or, refl, ap, sym, ◌∙◌, arith}
 use Rattle.vp_card.specs.Cards.{held}
 use Rattle.vp_sets.specs.Index.{IsSet}
-use Rattle.vp_count.specs.Sums.{containing, spread}
+use Rattle.vp_count.specs.Sums.{containing, raised_by, spread}
 use Rattle.vp_count.proofs.Passes.{entry, entry-zero, entry-five}
-use Rattle.vp_count.proofs.Masks.{Passed, passed_part, passed_within, passed_more, bit_pos, bit_small}
+use Rattle.vp_count.proofs.Masks.{Passed, passed_part, passed_within, passed_more, bit_pos, bit_small, one_bit}
 use Rattle.vp_count.proofs.totals.all_totals.Goals as goal
 
 start : (n : ℕ) (w hand totals : List ℕ) → ((m : ℕ) → m < 32 → get_or totals m 0 ≡ containing n w (held m hand)) → Passed n w hand totals 1 0
@@ -32,3 +32,13 @@ loop-place-preserved g c = passed_more (g.T.Sums.size c.args.sums.now) (g.T.Sums
 
 pub returns-clause-totals : goal.returns-clause-totals
 returns-clause-totals g c = done (g.T.Sums.size c.args.sums.now) (g.T.Sums.numbers c.args.sums.now) c.args.hand.now c.loop-place.totals c.loop-place.bit c.loop-place._place c.requires (omega arith) (omega arith) c.loop-place.invariant
+
+pub leave_out-requires-clause-one : goal.leave_out-requires-clause-one
+leave_out-requires-clause-one g c = one_bit c.loop-place._place c.loop-place.bit c.loop-place-test.true c.loop-place.invariant.bit_is
+
+raised_le : (k r : ℕ) → raised_by k r ≤ r + k
+unfolding raised_by
+raised_le k r = omega arith
+
+pub returns-clause-reads : goal.returns-clause-reads
+returns-clause-reads g c = omega (arith, c.held_sums-totals.ensures.counted, raised_le 32 (g.T.Sums.reads c.args.sums.now))
