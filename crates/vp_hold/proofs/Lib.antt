@@ -1,3 +1,2 @@
-pub mod Filled
+pub mod ByMask
 pub mod Values
-pub mod Written

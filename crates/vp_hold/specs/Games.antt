@@ -1,19 +1,17 @@
--- What a game is of, and the payments that its sums are made from.
-use Rattle.std.specs.Prelude.{◌≡◌, ℕ, ◌≤◌, List, map}
+-- What a game is of.
+use Rattle.std.specs.Prelude.{◌≡◌, ℕ, ◌<◌, List, length, slice_index}
 use Rattle.vp_pay.specs.declared.table.PayTable.{PayTable}
-use Rattle.vp_pay.specs.Table.{IsTable}
+use Rattle.vp_pay.specs.Bets.{IsBet}
 use Rattle.vp_wild.specs.Payment.{pay}
-use Rattle.vp_sets.specs.Index.{colex}
-use Rattle.vp_count.specs.Table.{Table}
+use Rattle.vp_sets.specs.Draws.{discarded, scale}
+use Rattle.vp_count.specs.Table.{AreSumsOf, Table}
 
--- the payments of all sets of five cards, by rising index
-unfoldable pub payments : PayTable → ℕ → List ℕ
-payments table coin = map (pay table coin) (colex 5 table.deck)
+-- by what the total of each of the 32 holds is multiplied, to stand over the common denominator of a deck of n cards
+abbrev pub AreScales : ℕ → List ℕ → Type 0
+AreScales n scales = (hand : List ℕ) (mask : ℕ) → length hand ≡ 5 → mask < 32 → slice_index scales mask ≡ scale n (length (discarded mask hand))
 
--- the sums are those of the payments of all hands of the deck, for a bet that the table has
-pub record IsGame (table : PayTable) (coin : ℕ) (sums : Table) : Type 0 where
-  pub rules : IsTable table
-  pub coin_from : 1 ≤ coin
-  pub coin_to : coin ≤ table.coins
-  pub size : sums.size ≡ table.deck
-  pub numbers : sums.numbers ≡ payments table coin
+-- the table has the bet, and the sums are those of its payments to all hands of the deck
+pub record IsGame (table : PayTable) (coin : ℕ) (scales : List ℕ) (sums : Table) : Type 0 where
+  pub bet : IsBet table coin
+  pub scaled : AreScales table.deck scales
+  pub paid : AreSumsOf table.deck (pay table coin) sums

@@ -1,19 +1,20 @@
 //! A bet on a pay table, with the sums that all its values come from.
 
-ghost use Rattle.std.specs.Prelude.{ℕ, ◌≡◌, ◌+◌, ◌<◌, ◌≤◌, true, length, slice_index};
+ghost use Rattle.std.specs.Prelude.{ℕ, ◌≡◌, ◌+◌, ◌<◌, ◌≤◌, true, length, map};
 ghost use Rattle.vp_card.specs.Cards.{in_deck};
+ghost use Rattle.vp_pay.specs.Bets.{IsBet};
 ghost use Rattle.vp_pay.specs.Table.{IsTable};
 ghost use Rattle.vp_sets.specs.Sets.{choose};
 ghost use Rattle.vp_count.specs.Table.{first_word};
-ghost use Rattle.vp_draws.specs.Draws.{best, least_best, ties, value};
+ghost use Rattle.vp_draws.specs.Draws.{best, least_best, masks, ties, value};
 
 use crate::payments::payment_sums;
-use crate::scaled::scaled;
-use std::marker::Model;
-use std::sync::ledger::Ledger;
+use crate::scales::scales;
+use std::marker::{Brand, Model};
+use std::sync::ledger::{Blank, Ledger};
 use vp_card::Hand;
 use vp_count::{Reads, SumTable, all_totals, held_total};
-use vp_draws::{Best, better};
+use vp_draws::Best;
 use vp_pay::PayTable;
 use vp_wild::Steps;
 
@@ -22,6 +23,7 @@ use vp_wild::Steps;
 pub struct Game<'a> {
     table: &'a PayTable,
     coin: u8,
+    scales: [u64; 32],
     sums: SumTable<'a>,
 }
 
@@ -33,7 +35,7 @@ impl<'a> Model for Game<'a> {
 
     ghost view = { λ g. record { table = g.table.now; coin = g.coin } };
 
-    ghost invariant = { λ g. IsGame g.table.now g.coin g.sums };
+    ghost invariant = { λ g. IsGame g.table.now g.coin g.scales g.sums };
 }
 
 impl<'a> Game<'a> {
@@ -45,16 +47,28 @@ impl<'a> Game<'a> {
         words: &'a mut [u64],
         steps: &mut Steps<L>,
     ) -> Game<'a>
-        requires table { IsTable table.now }
-        requires coin_from { 1 ≤ coin }
-        requires coin_to { coin ≤ table.now.coins }
+        requires bet { IsBet table.now coin }
         requires long { length words.old ≡ first_word table.now.deck 6 }
         ensures table { result.table ≡ table.now }
         ensures coin { result.coin ≡ coin }
         ensures steps { steps.new ≡ steps.old + choose table.now.deck 5 }
     {
-        let sums = payment_sums(table, coin, words, steps);
-        Game { table, coin, sums }
+        Game {
+            table,
+            coin,
+            scales: scales(table.deck),
+            sums: payment_sums(table, coin, words, steps),
+        }
+    }
+
+    /// The game of a bet. The sums are made in `words`, which may hold any numbers; the hands are not counted.
+    pub fn of(table: &'a PayTable, coin: u8, words: &'a mut [u64]) -> Game<'a>
+        requires bet { IsBet table.now coin }
+        requires long { length words.old ≡ first_word table.now.deck 6 }
+        ensures table { result.table ≡ table.now }
+        ensures coin { result.coin ≡ coin }
+    {
+        game_of::<Brand>(table, coin, words, Blank::new(1))
     }
 
     /// The pay table.
@@ -83,7 +97,20 @@ impl<'a> Game<'a> {
     {
         let mut reads = Reads::new(&self.sums);
         let total = held_total(&mut reads, &hand.numbers(), mask);
-        scaled(self.table.deck, hand, mask, total)
+        total * self.scales[mask as usize]
+    }
+
+    /// The values of the 32 holds of the hand; the place of each is its mask.
+    pub fn values(&self, hand: &Hand) -> [u64; 32]
+        requires cards { in_deck self.now.table.deck hand.now ≡ true }
+        ensures { result ≡ map (value self.now.table self.now.coin hand.now) masks }
+    {
+        let mut reads = Reads::new(&self.sums);
+        let mut values = all_totals(&mut reads, &hand.numbers());
+        for mask in 0..32usize {
+            values[mask] *= self.scales[mask];
+        }
+        values
     }
 
     /// The best of the 32 holds of the hand.
@@ -99,17 +126,49 @@ impl<'a> Game<'a> {
         ensures best { result.value ≡ best self.now.table self.now.coin hand.now }
         ensures least_best { result.mask ≡ least_best self.now.table self.now.coin hand.now }
     {
-        let mut reads = Reads::new(&self.sums);
-        let totals = all_totals(&mut reads, &hand.numbers());
+        let values = self.values(hand);
         let mut best = Best {
             mask: 0,
-            value: scaled(self.table.deck, hand, 0, totals[0]),
+            value: values[0],
             ties: 1,
         };
         for mask in 1..32u8 {
-            let value = scaled(self.table.deck, hand, mask, totals[mask as usize]);
-            best = better(best, mask, value);
+            improve(&mut best, mask, values[mask as usize]);
         }
         best
     }
+}
+
+/// The best of the holds so far and one more, which has a higher mask.
+fn improve(best: &mut Best, mask: u8, value: u64)
+    requires { best.old.ties < 255 }
+    ensures greater { best.old.value < value → best.new ≡ record { mask = mask; value = value; ties = 1 } }
+    ensures equal { best.old.value ≡ value → best.new ≡ record best.old { ties = best.old.ties + 1 } }
+    ensures less { value < best.old.value → best.new ≡ best.old }
+{
+    if best.value < value {
+        best.mask = mask;
+        best.value = value;
+        best.ties = 1;
+    } else if best.value == value {
+        best.ties += 1;
+    }
+}
+
+/// The game of a bet; the blank is for a counter that nobody reads.
+fn game_of<'a, L: Ledger>(
+    table: &'a PayTable,
+    coin: u8,
+    words: &'a mut [u64],
+    blank: Blank,
+) -> Game<'a>
+    requires bet { IsBet table.now coin }
+    requires long { length words.old ≡ first_word table.now.deck 6 }
+    requires name { blank.name ≡ L.name }
+    requires parts { blank.parts ≡ L.parts }
+    requires share { 0 < blank.parts }
+    ensures table { result.table ≡ table.now }
+    ensures coin { result.coin ≡ coin }
+{
+    Game::fill(table, coin, words, &mut Steps::<L>::new(blank))
 }

@@ -1,10 +1,13 @@
 //! The payments of all sets of five cards, written by rising index, and their sums.
 
-ghost use Rattle.std.specs.Prelude.{◌≡◌, ◌+◌, ◌<◌, ◌≤◌, length};
-ghost use Rattle.vp_pay.specs.Table.{IsTable};
+ghost use Rattle.std.specs.Prelude.{◌≡◌, ℕ, ◌+◌, ◌≤◌, List, length, map, slice_index};
+ghost use Rattle.vp_pay.specs.Bets.{IsBet};
+ghost use Rattle.vp_sets.specs.Index.{IsSet};
 ghost use Rattle.vp_sets.specs.Sets.{choose};
-ghost use Rattle.vp_count.specs.Table.{first_word};
-ghost use Rattle.vp_hold.specs.Games.{payments};
+ghost use Rattle.vp_count.specs.Runs.{run};
+ghost use Rattle.vp_count.specs.Sums.{hand_numbers};
+ghost use Rattle.vp_count.specs.Table.{AreSumsOf, first_word};
+ghost use Rattle.vp_wild.specs.Payment.{pay};
 
 use std::sync::ledger::Ledger;
 use vp_count::SumTable;
@@ -19,12 +22,9 @@ pub(crate) fn payment_sums<'a, L: Ledger>(
     words: &'a mut [u64],
     steps: &mut Steps<L>,
 ) -> SumTable<'a>
-    requires table { IsTable table.now }
-    requires coin_from { 1 ≤ coin }
-    requires coin_to { coin ≤ table.now.coins }
+    requires bet { IsBet table.now coin }
     requires long { length words.old ≡ first_word table.now.deck 6 }
-    ensures size { result.size ≡ table.now.deck }
-    ensures numbers { result.numbers ≡ payments table.now coin }
+    ensures sums { AreSumsOf table.now.deck (pay table.now coin) result }
     ensures steps { steps.new ≡ steps.old + choose table.now.deck 5 }
 {
     let hands = choose(table.deck, 5) as usize;
@@ -35,17 +35,38 @@ pub(crate) fn payment_sums<'a, L: Ledger>(
 
 /// Writes the payment of each set of five cards of the deck at the set's index. One step of the counter for each.
 fn write_payments<L: Ledger>(table: &PayTable, coin: u8, numbers: &mut [u64], steps: &mut Steps<L>)
-    requires table { IsTable table.now }
-    requires coin_from { 1 ≤ coin }
-    requires coin_to { coin ≤ table.now.coins }
+    requires bet { IsBet table.now coin }
     requires long { length numbers.old ≡ choose table.now.deck 5 }
-    ensures payments { numbers.new ≡ payments table.now coin }
+    ensures payments { numbers.new ≡ hand_numbers table.now.deck (pay table.now coin) }
     ensures steps { steps.new ≡ steps.old + choose table.now.deck 5 }
 {
-    let mut cards = [0, 1, 2, 3, 4];
     let mut kept = KeptPayments::new(table, coin);
-    for i in 0..numbers.len() {
-        numbers[i] = u64::from(kept.pay(&cards, steps));
-        next_set(table.deck, &mut cards);
+    let mut upper = [0, 1, 2, 3];
+    let mut first = 0;
+    for _ in 0..choose(table.deck, 4) {
+        let end = first + upper[0] as usize;
+        write_run(&mut kept, &upper, &mut numbers[first..end], steps);
+        first = end;
+        next_set(table.deck, &mut upper);
+    }
+}
+
+/// Writes the payments of the sets that have the upper four cards and one below them, by rising lowest card.
+fn write_run<L: Ledger>(
+    kept: &mut KeptPayments,
+    upper: &[u8; 4],
+    numbers: &mut [u64],
+    steps: &mut Steps<L>,
+)
+    requires four { length upper.now ≡ 4 }
+    requires set { IsSet 54 upper.now }
+    requires long { length numbers.old ≡ slice_index upper.now 0 }
+    ensures payments { numbers.new ≡ map (pay kept.old.table kept.old.coin) (run upper.now) }
+    ensures same { kept.new ≡ kept.old }
+    ensures steps { steps.new ≡ steps.old + slice_index upper.now 0 }
+{
+    let [b, c, d, e] = *upper;
+    for low in 0..b {
+        numbers[low as usize] = u64::from(kept.pay(&[low, b, c, d, e], steps));
     }
 }

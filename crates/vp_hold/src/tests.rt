@@ -1,85 +1,153 @@
-//! A whole deck ranked once, and a worked deal, for five coins: each payment is five times that for one.
+//! Worked deals.
 
 ghost use Rattle.std.specs.Prelude.{◌≡◌, ◌<◌, true, length};
 ghost use Rattle.vp_card.specs.Cards.{in_deck};
-ghost use Rattle.vp_pay.specs.Table.{IsTable};
+ghost use Rattle.vp_pay.specs.Bets.{IsBet};
 ghost use Rattle.vp_count.specs.Table.{first_word};
 
-use crate::deals::hand_of;
+mod deals;
+mod jobs;
+mod tables;
+mod walked;
+
 use crate::payments::payment_sums;
 use crate::{Best, Game};
+use deals::hand_of;
 use std::marker::Brand;
 use std::sync::ledger::{Blank, Ledger};
-use std::test::*;
+use std::test::Fail;
+use tables::{DEUCES, JACKS, KINGS, TWO_JOKERS, ZERO, table_of};
 use vp_card::Hand;
-use vp_count::{Reads, held_total, table_words};
+use vp_count::{Reads, SumTable, all_totals, held_total, table_words};
 use vp_pay::PayTable;
 use vp_wild::Steps;
 
-/// The best hold, the value of holding all cards, and whether the game tells the table and the bet.
-fn answers_from<L: Ledger>(
-    table: &PayTable,
-    words: &mut [u64],
-    hand: &Hand,
-    blank: Blank,
-) -> (Best, u64, bool)
-    requires table { IsTable table.now }
+/// The best hold of the hand, and the value of the hold `mask`, alone and among the values of all holds.
+fn worth(table: &PayTable, coin: u8, words: &mut [u64], hand: &Hand, mask: u8) -> (Best, u64, u64)
+    requires bet { IsBet table.now coin }
     requires long { length words.old ≡ first_word table.now.deck 6 }
     requires cards { in_deck table.now.deck hand.now ≡ true }
-    requires name { blank.name ≡ L.name }
-    requires parts { blank.parts ≡ L.parts }
-    requires share { 0 < blank.parts }
+    requires mask { mask < 32 }
 {
-    let game = Game::fill(table, table.coins, words, &mut Steps::<L>::new(blank));
-    let told = game.table() == table && game.coin() == table.coins;
-    (game.best(hand), game.value(hand, 31), told)
+    let game = Game::of(table, coin, words);
+    (
+        game.best(hand),
+        game.value(hand, mask),
+        game.values(hand)[mask as usize],
+    )
 }
 
-// One draw to a royal flush: 800, 7 flushes of 6, 3 straights of 4 and 12 pairs of 1. All hands of the deck are paid
-// 875504 in all.
+// The values are expected payments over 7669695, 8561520 and 3813768.
 #[test]
-fn draw_to_a_royal(rt: HostRuntime) -> Result<(), Fail> {
-    let table = PayTable::built_in(0).ok_or("no such table")?;
-    let hand = hand_of(b"deal As Ks Qs Js 4s", &table).ok_or("no hand")?;
-    let mut words = vec![in rt.alloc(); 7u64; table_words(table.deck)]?;
-    let (best, pat, told) = answers_from::<Brand>(&table, &mut words, &hand, Blank::new(1));
-    assert_eq!(rt; best.mask, 30);
-    assert_eq!(rt; best.value, 5 * 141318210);
-    assert_eq!(rt; best.ties, 1);
-    assert_eq!(rt; pat, 5 * 46018170);
-    assert!(rt; told);
-    assert_eq!(rt; words.first(), Some(&(5 * 875504)));
+fn worked_deals(rt: HostRuntime) -> Result<(), Fail> {
+    for (text, coin, deal, best, mask, value) in [
+        // One draw to a royal flush: 800, 7 flushes of 6, 3 straights of 4 and 12 pairs of 1.
+        (
+            JACKS,
+            1,
+            b"deal As Ks Qs Js 4s",
+            (30, 141318210, 1),
+            31,
+            46018170,
+        ),
+        (
+            JACKS,
+            1,
+            b"deal Ks Qs Js Ts 9s",
+            (31, 383484750, 1),
+            30,
+            142786875,
+        ),
+        (
+            JACKS,
+            1,
+            b"deal 8c 8d 8h 8s 3c",
+            (30, 191742375, 2),
+            31,
+            191742375,
+        ),
+        (
+            DEUCES,
+            1,
+            b"deal 2c 2d 2h 2s 3c",
+            (15, 1533939000, 2),
+            31,
+            1533939000,
+        ),
+        // The discarded joker can't come back.
+        (
+            KINGS,
+            5,
+            b"deal Jo Ts Js Qs Ks",
+            (31, 5 * 856152000, 1),
+            15,
+            5 * 161598690,
+        ),
+        (
+            TWO_JOKERS,
+            1,
+            b"deal Jk Jo 2c 3c 4c",
+            (24, 7627536, 8),
+            31,
+            7627536,
+        ),
+        (
+            TWO_JOKERS,
+            1,
+            b"deal Jo 2c 3c 4c 5c",
+            (16, 4125096, 1),
+            31,
+            3813768,
+        ),
+        (ZERO, 1, b"deal 2c 3c 4c 5c 6c", (0, 0, 32), 31, 0),
+    ] {
+        let table = table_of(text, coin).ok_or("no such table")?;
+        let hand = hand_of(deal, &table).ok_or("no hand")?;
+        let mut words = vec![in rt.alloc(); 7u64; table_words(table.deck)]?;
+        let (found, alone, among) = worth(&table, coin, &mut words, &hand, mask);
+        assert_eq!(rt; (found.mask, found.value, found.ties), best);
+        assert_eq!(rt; (alone, among), (value, value));
+    }
     Ok(())
 }
 
-/// The sum of the payments of all hands, and the totals of the holds 30 and 31 of a hand.
-fn totals_from<L: Ledger>(
+/// The sum of all numbers, and the totals of the holds 30 and 31 of the hand, one by one and all at once.
+fn totals(sums: &SumTable, hand: &Hand) -> (u64, [u64; 4])
+    requires { in_deck sums.now.size hand.now ≡ true }
+{
+    let mut reads = Reads::new(&*sums);
+    let draw = held_total(&mut reads, &hand.numbers(), 30);
+    let pat = held_total(&mut reads, &hand.numbers(), 31);
+    let all = all_totals(&mut reads, &hand.numbers());
+    (sums.at(&[]), [draw, pat, all[30], all[31]])
+}
+
+fn totals_of<L: Ledger>(
     table: &PayTable,
     words: &mut [u64],
     hand: &Hand,
     blank: Blank,
-) -> (u64, u64, u64)
-    requires table { IsTable table.now }
+) -> (u64, [u64; 4])
+    requires bet { IsBet table.now 1 }
     requires long { length words.old ≡ first_word table.now.deck 6 }
     requires cards { in_deck table.now.deck hand.now ≡ true }
     requires name { blank.name ≡ L.name }
     requires parts { blank.parts ≡ L.parts }
     requires share { 0 < blank.parts }
 {
-    let sums = payment_sums(table, table.coins, words, &mut Steps::<L>::new(blank));
-    let mut reads = Reads::new(&sums);
-    let draw = held_total(&mut reads, &hand.numbers(), 30);
-    let pat = held_total(&mut reads, &hand.numbers(), 31);
-    (sums.at(&[]), draw, pat)
+    totals(
+        &payment_sums(table, 1, words, &mut Steps::<L>::new(blank)),
+        hand,
+    )
 }
 
-// The total of the 47 draws, and the flush that is held.
+// All hands of the deck are paid 875504. The 47 draws to a royal flush are paid 866, and the flush that is held 6.
 #[test]
-fn totals_of_a_draw_to_a_royal(rt: HostRuntime) -> Result<(), Fail> {
-    let table = PayTable::built_in(0).ok_or("no such table")?;
-    let hand = hand_of(b"deal 4s Js Qs Ks As", &table).ok_or("no hand")?;
+fn sums_of_a_draw_to_a_royal(rt: HostRuntime) -> Result<(), Fail> {
+    let table = table_of(JACKS, 1).ok_or("no such table")?;
+    let hand = hand_of(b"deal As Ks Qs Js 4s", &table).ok_or("no hand")?;
     let mut words = vec![in rt.alloc(); 7u64; table_words(table.deck)]?;
-    let totals = totals_from::<Brand>(&table, &mut words, &hand, Blank::new(1));
-    assert_eq!(rt; totals, (5 * 875504, 5 * 866, 5 * 6));
+    let told = totals_of::<Brand>(&table, &mut words, &hand, Blank::new(1));
+    assert_eq!(rt; told, (875504, [866, 6, 866, 6]));
     Ok(())
 }

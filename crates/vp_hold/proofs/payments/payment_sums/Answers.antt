@@ -1,6 +1,8 @@
 use Rattle.std.proofs.Common.{◌≡◌, ◌+◌, length, ◌∙◌, arith, length-drop, length-take}
 use Rattle.vp_count.specs.Table.{first_word}
-use Rattle.vp_hold.proofs.Filled.{words_before, five_written, written_bounded}
+use Rattle.vp_draws.proofs.Payments.{pay_le}
+use Rattle.vp_wild.specs.Payment.{pay}
+use Rattle.vp_count.proofs.HandNumbers.{words_before, five_written, written_small}
 use Rattle.vp_hold.proofs.payments.payment_sums.Goals as goal
 
 pub overflow_sub-first : goal.overflow_sub-first
@@ -13,8 +15,10 @@ write_payments-requires-clause-long g c =
 
 pub fill-requires-clause-bounded : goal.fill-requires-clause-bounded
 fill-requires-clause-bounded g c =
-    written_bounded c.args.table.now c.args.coin c.choose-hands.result c.args.words.now c.write_payments.new.numbers c.requires.table c.requires.long c.choose-hands.ensures c.write_payments.ensures.payments
+    written_small c.args.table.now.deck c.choose-hands.result c.args.words.now c.write_payments.new.numbers (pay c.args.table.now c.args.coin) c.requires.long c.choose-hands.ensures c.write_payments.ensures.payments (λ hand. omega (arith, pay_le c.args.table.now c.args.coin hand c.requires.bet.rules))
 
-pub returns-clause-numbers : goal.returns-clause-numbers
-returns-clause-numbers g c =
-    c.fill.ensures.numbers ∙ five_written c.args.table.now.deck c.choose-hands.result c.args.words.now c.write_payments.new.numbers c.requires.long c.choose-hands.ensures ∙ c.write_payments.ensures.payments
+pub returns-clause-sums : goal.returns-clause-sums
+returns-clause-sums g c = record {
+  size = c.fill.ensures.size;
+  numbers = c.fill.ensures.numbers ∙ five_written c.args.table.now.deck c.choose-hands.result c.args.words.now c.write_payments.new.numbers c.requires.long c.choose-hands.ensures ∙ c.write_payments.ensures.payments;
+}

@@ -1,19 +1,17 @@
 //! Jobs whose time bench/deal takes.
 
-ghost use Rattle.std.specs.Prelude.{◌≡◌, ◌<◌, length};
-ghost use Rattle.vp_pay.specs.Table.{IsTable};
+ghost use Rattle.std.specs.Prelude.{◌≡◌, length};
+ghost use Rattle.vp_pay.specs.Bets.{IsBet};
 ghost use Rattle.vp_count.specs.Table.{first_word};
 
+use super::deals::NATURAL;
+use super::tables::{JACKS, table_of};
 use crate::Game;
-use crate::deals::DEALS;
-use std::marker::Brand;
-use std::sync::ledger::{Blank, Ledger};
 use std::test::*;
 use vp_card::Hand;
 use vp_count::table_words;
 use vp_pay::{PayTable, read_deal};
 use vp_text::Lines;
-use vp_wild::Steps;
 
 /// The ties of the best holds of the hands, added up.
 fn ties_of_hands(game: &Game, hands: &[Option<Hand>; 12]) -> u64 {
@@ -29,15 +27,12 @@ fn ties_of_hands(game: &Game, hands: &[Option<Hand>; 12]) -> u64 {
 }
 
 /// The same, added up `turns` times.
-fn ties_of_best<L: Ledger>(table: &PayTable, turns: u32, words: &mut [u64], blank: Blank) -> u64
-    requires table { IsTable table.now }
+fn ties_of_best(table: &PayTable, turns: u32, words: &mut [u64]) -> u64
+    requires bet { IsBet table.now 1 }
     requires long { length words.old ≡ first_word table.now.deck 6 }
-    requires name { blank.name ≡ L.name }
-    requires parts { blank.parts ≡ L.parts }
-    requires share { 0 < blank.parts }
 {
-    let game = Game::fill(table, 1, words, &mut Steps::<L>::new(blank));
-    let hands = DEALS.map(|deal| read_deal(&mut Lines::new(deal), 52).ok());
+    let game = Game::of(table, 1, words);
+    let hands = NATURAL.map(|deal| read_deal(&mut Lines::new(deal), 52).ok());
     let mut ties = 0u64;
     for _ in 0..turns {
         ties = ties.wrapping_add(ties_of_hands(&game, &hands));
@@ -46,9 +41,9 @@ fn ties_of_best<L: Ledger>(table: &PayTable, turns: u32, words: &mut [u64], blan
 }
 
 fn jacks_ties(rt: &HostRuntime, turns: u32) -> Result<u64, Fail> {
-    let table = PayTable::built_in(0).ok_or("no such table")?;
+    let table = table_of(JACKS, 1).ok_or("no such table")?;
     let mut words = vec![in rt.alloc(); 9u64; table_words(table.deck)]?;
-    Ok(ties_of_best::<Brand>(&table, turns, &mut words, Blank::new(1)))
+    Ok(ties_of_best(&table, turns, &mut words))
 }
 
 #[test]

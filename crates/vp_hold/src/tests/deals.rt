@@ -9,7 +9,7 @@ use vp_pay::{PayTable, read_deal};
 use vp_text::Lines;
 
 /// A dozen deals of 52 cards: pairs, draws to straights and flushes, made hands, one to four twos, and nothing.
-pub(crate) const DEALS: [&[u8; 19]; 12] = [
+pub(crate) const NATURAL: [&[u8; 19]; 12] = [
     b"deal As Ks Qs Js 4s",
     b"deal 2c 7d 9h Js Kc",
     b"deal 8c 8d 8h 8s 3c",
@@ -25,7 +25,7 @@ pub(crate) const DEALS: [&[u8; 19]; 12] = [
 ];
 
 /// A dozen deals of 53 cards, nine of them with the joker.
-pub(crate) const JOKER_DEALS: [&[u8; 19]; 12] = [
+pub(crate) const ONE_JOKER: [&[u8; 19]; 12] = [
     b"deal Jo Ts Js Qs Ks",
     b"deal Jo 2c 4d 9h As",
     b"deal Jo Ac Ad Ah As",
@@ -37,6 +37,22 @@ pub(crate) const JOKER_DEALS: [&[u8; 19]; 12] = [
     b"deal Jo 2c 6d 8h Ts",
     b"deal As Ks Qs Js 4s",
     b"deal Kc Kd 9h 9s 9c",
+    b"deal 2c 7d 9h Js Qc",
+];
+
+/// A dozen deals of 54 cards, four with both jokers, and three with each of them alone.
+pub(crate) const TWO_JOKERS: [&[u8; 19]; 12] = [
+    b"deal Jk Jo 2c 3c 4c",
+    b"deal Jk Jo Ac Ad Ah",
+    b"deal Jk Jo 5h 9h Kh",
+    b"deal Jk Jo 2c 7d Js",
+    b"deal Jk Ts Js Qs Ks",
+    b"deal Jk 2c 4d 9h As",
+    b"deal Jk 8c 8d 8h 3c",
+    b"deal Jo Kc Kd 7h 7s",
+    b"deal Jo 3c 4c 5c 9d",
+    b"deal Jo 2c 6d 8h Ts",
+    b"deal As Ks Qs Js 4s",
     b"deal 2c 7d 9h Js Qc",
 ];
 
