@@ -27,12 +27,12 @@ use Rattle.vp_check.proofs.Classes_grammar.{row_words, RowRule, Exact-class_line
 abbrev pub bet_text : ℕ → Text
 bet_text coin = (codes "cert" ∷ decimal coin ∷ []) ∷ []
 
-abbrev pub IsBet : ℕ → ℕ → Type 0
-IsBet coins coin = (1 ≤ coin) × (coin ≤ coins)
+abbrev pub IsCoin : ℕ → ℕ → Type 0
+IsCoin coins coin = (1 ≤ coin) × (coin ≤ coins)
 
-pub Exact-bet : (coins : ℕ) → 1 ≤ coins → coins ≤ 5 → Exact bet_text (IsBet coins) (bet_line coins)
+pub Exact-bet : (coins : ℕ) → 1 ≤ coins → coins ≤ 5 → Exact bet_text (IsCoin coins) (bet_line coins)
 Exact-bet coins some most =
-    Exact-line (λ (coin : ℕ). codes "cert" ∷ decimal coin ∷ []) (IsBet coins) _ (Exact-keyed (codes "cert") (number_within_exact 1 coins (omega (arith, most)))) 1 (omega arith, some)
+    Exact-line (λ (coin : ℕ). codes "cert" ∷ decimal coin ∷ []) (IsCoin coins) _ (Exact-keyed (codes "cert") (number_within_exact 1 coins (omega (arith, most)))) 1 (omega arith, some)
 
 -- ---- the end
 
@@ -72,7 +72,7 @@ abbrev AreBehindBet : ℕ → (List ClassLine × (ℕ × ℕ)) × Unit {0} → T
 AreBehindBet n = AreBoth (AreRows (RowRule n)) (λ lines u. Unit {0})
 
 abbrev AreBehindTable : PayTable → ℕ × ((List ClassLine × (ℕ × ℕ)) × Unit {0}) → Type 0
-AreBehindTable table = AreBoth (IsBet table.coins) (λ coin. AreBehindBet table.deck)
+AreBehindTable table = AreBoth (IsCoin table.coins) (λ coin. AreBehindBet table.deck)
 
 abbrev AreParts : CertificateParts → Type 0
 AreParts = AreBoth IsTable AreBehindTable
@@ -81,7 +81,7 @@ Exact-parts : Exact parts_text AreParts certificate_parts_at
 Exact-parts =
     Exact-both _ _ _ (λ table. behind_table) AreBehindTable _ Exact-table (λ table is_table.
     Exact-both _ _ _ (λ coin. behind_bet) (λ coin. AreBehindBet table.deck) _ (Exact-bet table.coins is_table.some_coins is_table.most_coins) (λ coin is_bet.
-    Exact-both _ _ _ (λ lines u. end_words u ∷ []) (λ lines u. Unit {0}) _ (Exact-class_lines table.deck is_table.greatest_deck) (λ lines are. Exact-end)))
+    Exact-both _ _ _ (λ lines u. end_words u ∷ []) (λ lines u. Unit {0}) _ (Exact-class_lines table.deck is_table.known_deck.1) (λ lines are. Exact-end)))
 
 parts_of : Certificate → CertificateParts
 parts_of c = (c.table, (c.coin, ((c.classes, (c.sum, c.denominator)), tt)))
@@ -93,9 +93,7 @@ parts_certificate p is =
     let rows = is.1.1.0 in
     let all = keeps_are n [] lines rows.0 (omega arith) in
     record {
-      table = is.0;
-      some_coin = is.1.0.0;
-      most_coin = is.1.0.1;
+      bet = record { rules = is.0; some = is.1.0.0; within = is.1.0.1 };
       classes = All-from_recursion (IsClassLine n) lines all.0;
       most_classes = all.1;
       sum = rows.1.0;
@@ -105,9 +103,9 @@ parts_certificate p is =
 certificate_parts : (c : Certificate) → IsCertificate c → AreParts (parts_of c)
 unfolding parts_of
 certificate_parts c is = (
-  is.table,
+  is.bet.rules,
   (
-    (is.some_coin, is.most_coin),
+    (is.bet.some, is.bet.within),
     ((are_keeps c.table.deck [] c.classes (of_all (IsClassLine c.table.deck) c.classes is.classes) is.most_classes, (is.sum, is.denominator)), tt),
   ),
 )

@@ -11,7 +11,7 @@ use Rattle.vp_card.specs.Texts.{card_text}
 use Rattle.vp_card.specs.Reading.{card_of}
 use Rattle.vp_text.specs.Lines.{Word}
 use Rattle.vp_text.specs.Reading.{next_is}
-use Rattle.vp_text.specs.Pieces.{so_many}
+use Rattle.vp_text.specs.Pieces.{◌>>=◌, so_many}
 use Rattle.vp_text.specs.ExactReaders.{Exact, Keeps, on_item, Finish, rows_text, AreRows, ExactText}
 use Rattle.vp_text.specs.Numbers.{number_of, number_within}
 use Rattle.vp_text.proofs.Numbers.{number_exact, number_within_exact}
@@ -21,7 +21,7 @@ use Rattle.vp_pay.proofs.Deals.{Exact-card}
 use Rattle.vp_pay.proofs.Tables.{of_all}
 use Rattle.vp_suit.specs.Classes.{IsDeal, representatives}
 use Rattle.vp_check.specs.Certificates.{IsClassLine}
-use Rattle.vp_check.specs.Reading.{rises, of_deck, class_of, next_class_of, return_of, class_or_return, class_lines}
+use Rattle.vp_check.specs.Reading.{rises, of_deck, class_of, return_of, row_of, may_follow, class_or_return, class_lines}
 use Rattle.vp_check.specs.Spelling.{class_words, return_words}
 use Rattle.vp_check.specs.declared.class_line.ClassLine.{ClassLine}
 use Rattle.vp_check.proofs.Cards_grammar.{rises-increasing, increasing-rises}
@@ -100,19 +100,19 @@ class_taken n words line read =
     ))
     (λ e. absurd (no_value line e))
 
-class_again : (n : ℕ) (line : ClassLine) → n ≤ 53 → IsClassLine n line → class_of n (class_words line) ≡ Some line
+class_again : (n : ℕ) (line : ClassLine) → n ≤ 54 → IsClassLine n line → class_of n (class_words line) ≡ Some line
 unfolding class_of class_words
 class_again n line most is =
     let below = deal_below n line.hand is.deal in
     let rest : List Word = decimal line.weight ∷ decimal line.mask ∷ decimal line.value ∷ [] in
     let cards : so_many card_of 5 (map card_text line.hand ++ rest) ≡ Some (line.hand, rest) =
-    (Exact-so_many Exact-card 5).again rest line.hand (record { count = is.deal.five; all = below_more n 53 line.hand most below }) refl in
+    (Exact-so_many Exact-card 5).again rest line.hand (record { count = is.deal.five; all = below_more n 54 line.hand most below }) refl in
     let weight : number_within 1 24 (decimal line.weight) ≡ Some line.weight = Exact-weight.again line.weight (is.some_weight, is.most_weight) in
     let mask : number_within 0 31 (decimal line.mask) ≡ Some line.mask = Exact-mask.again line.mask (omega arith, omega (arith, is.mask)) in
     let value : number_of (decimal line.value) ≡ Some line.value = number_exact.again line.value is.value in
     rw (cards, weight, mask, value, increasing-rises line.hand is.deal.set.rising, below_all n line.hand below)
 
-pub Exact-class : (n : ℕ) → n ≤ 53 → ExactText class_words (IsClassLine n) (class_of n)
+pub Exact-class : (n : ℕ) → n ≤ 54 → ExactText class_words (IsClassLine n) (class_of n)
 Exact-class n most = record {
   takes = λ words line read. class_taken n words line read;
   again = λ line is. class_again n line most is;
@@ -158,34 +158,14 @@ return_again r is =
 
 -- ---- class lines up to the return
 
--- a class line may follow these
-pub record MayFollow (n : ℕ) (front : List ClassLine) (line : ClassLine) : Type 0 where
-  pub class : IsClassLine n line
-  pub room : length front < length (representatives n)
-
-next_taken : (n : ℕ) (front : List ClassLine) (words : List Word) (line : ClassLine) → n ≤ 53 → next_class_of n front words ≡ Some line → MayFollow n front line × (class_words line ≡ words)
-unfolding next_class_of
-next_taken n front words line most read =
-    let first = bound _ _ _ read in
-    let l = (Exact-class n most).takes words first.value first.first in
-    let P : ClassLine → Type 0 = λ l. MayFollow n front l × (class_words l ≡ words) in
-    chosen P (nat_lt (length front) (length (representatives n))) (Some first.value) None line first.then
-    (λ is e. so P first.value line e (record { class = l.0; room = ltb-true (length front) (length (representatives n)) is }, l.1))
-    (λ e. absurd (no_value line e))
-
-next_again : (n : ℕ) (front : List ClassLine) (line : ClassLine) → n ≤ 53 → MayFollow n front line → next_class_of n front (class_words line) ≡ Some line
-unfolding next_class_of
-next_again n front line most is =
-    rw ((Exact-class n most).again line is.class, lt-ltb (length front) (length (representatives n)) is.room)
-
 -- a row: a class line, or the return
 abbrev pub row_words : ClassLine ⊎ (ℕ × ℕ) → List Word
 row_words (inl line) = class_words line
 row_words (inr r) = words_of_return r
 
-abbrev pub RowRule : ℕ → List ClassLine → ClassLine ⊎ (ℕ × ℕ) → Type 0
-RowRule n front (inl line) = MayFollow n front line
-RowRule n front (inr r) = IsReturn r
+abbrev IsRow : ℕ → ClassLine ⊎ (ℕ × ℕ) → Type 0
+IsRow n (inl line) = IsClassLine n line
+IsRow n (inr r) = IsReturn r
 
 as_class : ClassLine → ClassLine ⊎ (ℕ × ℕ)
 as_class line = inl line
@@ -193,24 +173,24 @@ as_class line = inl line
 as_return : ℕ × ℕ → ClassLine ⊎ (ℕ × ℕ)
 as_return r = inr r
 
-row_taken : (n : ℕ) (front : List ClassLine) (words : List Word) (row : ClassLine ⊎ (ℕ × ℕ)) → n ≤ 53 → class_or_return n front words ≡ Some row → RowRule n front row × (row_words row ≡ words)
-unfolding class_or_return as_class as_return
-row_taken n front words row most read = by_key (next_is (codes "return") words) read
+row_taken : (n : ℕ) (words : List Word) (row : ClassLine ⊎ (ℕ × ℕ)) → n ≤ 54 → row_of n words ≡ Some row → IsRow n row × (row_words row ≡ words)
+unfolding row_of as_class as_return
+row_taken n words row most read = by_key (next_is (codes "return") words) read
   where
     P : ClassLine ⊎ (ℕ × ℕ) → Type 0
-    P row = RowRule n front row × (row_words row ≡ words)
+    P row = IsRow n row × (row_words row ≡ words)
 
     a_return : (o : Option (ℕ × ℕ)) → return_of words ≡ o → option_map as_return o ≡ Some row → P row
     a_return None is e = absurd (no_value row e)
     a_return (Some r) is e = so P (inr r) row e (return_taken words r is)
 
-    a_class : (o : Option ClassLine) → next_class_of n front words ≡ o → option_map as_class o ≡ Some row → P row
+    a_class : (o : Option ClassLine) → class_of n words ≡ o → option_map as_class o ≡ Some row → P row
     a_class None is e = absurd (no_value row e)
-    a_class (Some line) is e = so P (inl line) row e (next_taken n front words line most is)
+    a_class (Some line) is e = so P (inl line) row e ((Exact-class n most).takes words line is)
 
-    by_key : (b : Bool) → cond b (option_map as_return (return_of words)) (option_map as_class (next_class_of n front words)) ≡ Some row → P row
+    by_key : (b : Bool) → cond b (option_map as_return (return_of words)) (option_map as_class (class_of n words)) ≡ Some row → P row
     by_key true e = a_return (return_of words) refl e
-    by_key false e = a_class (next_class_of n front words) refl e
+    by_key false e = a_class (class_of n words) refl e
 
 class_is : (line : ClassLine) → next_is (codes "return") (class_words line) ≡ false
 unfolding class_words
@@ -220,28 +200,60 @@ return_is : (r : ℕ × ℕ) → next_is (codes "return") (words_of_return r) �
 unfolding return_words
 return_is r = refl
 
-row_again : (n : ℕ) (front : List ClassLine) (row : ClassLine ⊎ (ℕ × ℕ)) → n ≤ 53 → RowRule n front row → class_or_return n front (row_words row) ≡ Some row
-unfolding class_or_return as_class as_return
-row_again n front (inl line) most is =
-    let other : next_is (codes "return") (class_words line) ≡ false = class_is line in
-    ap (λ (b : Bool). cond b (option_map as_return (return_of (class_words line))) (option_map as_class (next_class_of n front (class_words line)))) other
-    ∙ ap (option_map as_class) (next_again n front line most is)
-row_again n front (inr r) most is =
-    let this : next_is (codes "return") (words_of_return r) ≡ true = return_is r in
-    ap (λ (b : Bool). cond b (option_map as_return (return_of (words_of_return r))) (option_map as_class (next_class_of n front (words_of_return r)))) this
+row_again : (n : ℕ) (row : ClassLine ⊎ (ℕ × ℕ)) → n ≤ 54 → IsRow n row → row_of n (row_words row) ≡ Some row
+unfolding row_of as_class as_return
+row_again n (inl line) most is =
+    ap (λ (b : Bool). cond b (option_map as_return (return_of (class_words line))) (option_map as_class (class_of n (class_words line)))) (class_is line)
+    ∙ ap (option_map as_class) ((Exact-class n most).again line is)
+row_again n (inr r) most is =
+    ap (λ (b : Bool). cond b (option_map as_return (return_of (words_of_return r))) (option_map as_class (class_of n (words_of_return r)))) (return_is r)
     ∙ ap (option_map as_return) (return_again r is)
 
-Exact-row : (n : ℕ) → n ≤ 53 → (front : List ClassLine) → ExactText row_words (RowRule n front) (class_or_return n front)
+-- a class line may follow these
+pub record MayFollow (n : ℕ) (front : List ClassLine) (line : ClassLine) : Type 0 where
+  pub class : IsClassLine n line
+  pub room : length front < length (representatives n)
+
+abbrev pub RowRule : ℕ → List ClassLine → ClassLine ⊎ (ℕ × ℕ) → Type 0
+RowRule n front (inl line) = MayFollow n front line
+RowRule n front (inr r) = IsReturn r
+
+-- a row that may follow
+follows : (n : ℕ) (front : List ClassLine) (words : List Word) (row other : ClassLine ⊎ (ℕ × ℕ)) → IsRow n row × (row_words row ≡ words) → may_follow n front row ≡ Some other
+    → RowRule n front other × (row_words other ≡ words)
+follows n front words (inr r) other is e = so (λ row. RowRule n front row × (row_words row ≡ words)) (inr r) other e is
+follows n front words (inl line) other is e =
+    chosen (λ row. RowRule n front row × (row_words row ≡ words)) (nat_lt (length front) (length (representatives n))) (Some (inl line)) None other e
+    (λ room same. so (λ row. RowRule n front row × (row_words row ≡ words)) (inl line) other same (record { class = is.0; room = ltb-true (length front) (length (representatives n)) room }, is.1))
+    (λ none. absurd (no_value other none))
+
+followed : (n : ℕ) (front : List ClassLine) (row : ClassLine ⊎ (ℕ × ℕ)) → RowRule n front row → IsRow n row × (may_follow n front row ≡ Some row)
+followed n front (inl line) is = (is.class, rw (lt-ltb (length front) (length (representatives n)) is.room))
+followed n front (inr r) is = (is, refl)
+
+rule_taken : (n : ℕ) (front : List ClassLine) (words : List Word) (row : ClassLine ⊎ (ℕ × ℕ)) → n ≤ 54 → class_or_return n front words ≡ Some row → RowRule n front row × (row_words row ≡ words)
+unfolding class_or_return
+rule_taken n front words row most read =
+    let first = bound _ _ _ read in
+    follows n front words first.value row (row_taken n words first.value most first.first) first.then
+
+rule_again : (n : ℕ) (front : List ClassLine) (row : ClassLine ⊎ (ℕ × ℕ)) → n ≤ 54 → RowRule n front row → class_or_return n front (row_words row) ≡ Some row
+unfolding class_or_return
+rule_again n front row most is =
+    let both = followed n front row is in
+    ap (λ (o : Option (ClassLine ⊎ (ℕ × ℕ))). o >>= may_follow n front) (row_again n row most both.0) ∙ both.1
+
+Exact-row : (n : ℕ) → n ≤ 54 → (front : List ClassLine) → ExactText row_words (RowRule n front) (class_or_return n front)
 Exact-row n most front = record {
-  takes = λ words row read. row_taken n front words row most read;
-  again = λ row is. row_again n front row most is;
+  takes = λ words row read. rule_taken n front words row most read;
+  again = λ row is. rule_again n front row most is;
 }
 
 -- behind any class lines the return can follow
 finish : (n : ℕ) (front : List ClassLine) → Finish (RowRule n) front
 finish n front = record { more = []; close = (0, 0); keeps = tt; closes = (omega arith, omega arith) }
 
-pub Exact-class_lines : (n : ℕ) → n ≤ 53 → Exact (rows_text row_words) (AreRows (RowRule n)) (class_lines n)
+pub Exact-class_lines : (n : ℕ) → n ≤ 54 → Exact (rows_text row_words) (AreRows (RowRule n)) (class_lines n)
 Exact-class_lines n most = Exact-rows row_words (RowRule n) (class_or_return n) (Exact-row n most) (λ front keeps. finish n front)
 
 -- ---- class lines that keep their rules one after another

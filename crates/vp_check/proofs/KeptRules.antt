@@ -10,10 +10,10 @@ use Rattle.vp_card.specs.Rising.{IsBelow, IsRising}
 use Rattle.vp_sets.specs.Sets.{choose}
 use Rattle.vp_sets.specs.Index.{set_index}
 use Rattle.vp_card.proofs.Rising.{below_down}
-use Rattle.vp_draws.specs.Draws.{best, value}
+use Rattle.vp_draws.specs.Draws.{best, return_denominator, value}
 use Rattle.vp_suit.specs.Classes.{is_representative, weight}
 use Rattle.vp_check.specs.Certificates.{Certificate}
-use Rattle.vp_check.specs.Rules.{Row, broken_if, first_of, rows_from, in_range, image_breach, rising_breach, weight_breach, value_breach, mask_breach, class_breach, denominator_of, cover_breach, sum_breach, denominator_breach, return_breach, Break, at, class_break, first_break}
+use Rattle.vp_check.specs.Rules.{Row, broken_if, first_of, rows, rows_from, in_range, image_breach, rising_breach, weight_breach, value_breach, mask_breach, listed_breach, walked_breach, class_breach, cover_breach, sum_breach, denominator_breach, return_breach, Break, at, class_break, first_break}
 use Rattle.vp_check.specs.declared.class_line.ClassLine.{ClassLine}
 use Rattle.vp_check.specs.declared.rules.Breach.{Breach}
 use Rattle.vp_check.specs.declared.finding.CertRule.{CertRule}
@@ -31,6 +31,17 @@ first_later (Some a) xs e = absurd (cc)
 pub first_here : {A : Type 0} (x : Option A) (a : A) (xs : List (Option A)) → x ≡ Some a → first_of (x ∷ xs) ≡ Some a
 first_here None a xs e = absurd (cc)
 first_here (Some b) a xs e = e
+
+-- none of them is there where each of them is not
+pub none_all : {A B : Type 0} (f : A → Option B) (xs : List A) → first_of (map f xs) ≡ None → All (λ x. f x ≡ None) xs
+none_all f [] e = All-nil (λ x. f x ≡ None)
+none_all f (x ∷ xs) e =
+    let parts = first_none (f x) (map f xs) e in
+    All-cons (λ x. f x ≡ None) x xs parts.0 (none_all f xs parts.1)
+
+pub all_none : {A B : Type 0} (f : A → Option B) (xs : List A) → All (λ x. f x ≡ None) xs → first_of (map f xs) ≡ None
+all_none f [] h = refl
+all_none f (x ∷ xs) h = first_later (f x) (map f xs) (All-head (λ x. f x ≡ None) x xs h) ∙ all_none f xs (All-tail (λ x. f x ≡ None) x xs h)
 
 at_none : (place : ℕ) (b : Option Breach) → at place b ≡ None → b ≡ None
 at_none place None e = refl
@@ -79,15 +90,6 @@ walked_when : (walked : Bool) (b : Option Breach) → (walked ≡ true → b ≡
 walked_when true b h = h refl
 walked_when false b h = refl
 
-five_none : {A : Type 0} (a b c d e : Option A) → first_of (a ∷ b ∷ c ∷ d ∷ e ∷ []) ≡ None → (a ≡ None) × (b ≡ None) × (c ≡ None) × (d ≡ None) × (e ≡ None)
-five_none a b c d e h =
-    let first = first_none a (b ∷ c ∷ d ∷ e ∷ []) h in
-    let second = first_none b (c ∷ d ∷ e ∷ []) first.1 in
-    let third = first_none c (d ∷ e ∷ []) second.1 in
-    let fourth = first_none d (e ∷ []) third.1 in
-    let fifth = first_none e [] fourth.1 in
-    (first.0, second.0, third.0, fourth.0, fifth.0)
-
 image_kept : (hand : List ℕ) → image_breach hand ≡ None → is_representative hand ≡ true
 unfolding image_breach
 image_kept hand e = not_false (is_representative hand) (kept_if _ _ _ _ e)
@@ -104,146 +106,118 @@ held_kept : (table : PayTable) (coin : ℕ) (line : ClassLine) → mask_breach t
 unfolding mask_breach
 held_kept table coin line e = let k : ltb (value table coin line.hand line.mask) (best table coin line.hand) ≡ false = kept_if _ _ _ _ e in grind (arith, nat_tests)
 
+three_none : {A : Type 0} (a b c : Option A) → first_of (a ∷ b ∷ c ∷ []) ≡ None → (a ≡ None) × (b ≡ None) × (c ≡ None)
+three_none a b c h =
+    let first = first_none a (b ∷ c ∷ []) h in
+    let second = first_none b (c ∷ []) first.1 in
+    let third = first_none c [] second.1 in
+    (first.0, second.0, third.0)
+
+two_none : {A : Type 0} (a b : Option A) → first_of (a ∷ b ∷ []) ≡ None → (a ≡ None) × (b ≡ None)
+two_none a b h =
+    let first = first_none a (b ∷ []) h in
+    let second = first_none b [] first.1 in
+    (first.0, second.0)
+
 pub line_kept : (table : PayTable) (coin : ℕ) (walked : Bool) (before : Option ℕ) (line : ClassLine) → class_breach table coin walked before line ≡ None → KeptLine table coin walked before line
-unfolding class_breach
+unfolding class_breach listed_breach walked_breach
 line_kept table coin walked before line e =
-    let five = five_none (image_breach line.hand) (rising_breach before line.hand) (weight_breach line) (cond walked (value_breach table coin line) None) (cond walked (mask_breach table coin line) None) e in
+    let both = two_none (listed_breach before line) (cond walked (walked_breach table coin line) None) e in
+    let listed = three_none (image_breach line.hand) (rising_breach before line.hand) (weight_breach line) both.0 in
+    let asked : walked ≡ true → (value_breach table coin line ≡ None) × (mask_breach table coin line ≡ None) =
+    λ t. two_none (value_breach table coin line) (mask_breach table coin line) (when_walked walked (walked_breach table coin line) both.1 t) in
     record {
-      least = image_kept line.hand five.0;
-      above = rising_kept before line.hand five.1;
-      weighs = weight_kept line five.2;
-      worth = λ t. worth_kept table coin line (when_walked walked (value_breach table coin line) five.3 t);
-      held = λ t. held_kept table coin line (when_walked walked (mask_breach table coin line) five.4 t);
+      least = image_kept line.hand listed.0;
+      above = rising_kept before line.hand listed.1;
+      weighs = weight_kept line listed.2;
+      worth = λ t. worth_kept table coin line (asked t).0;
+      held = λ t. held_kept table coin line (asked t).1;
     }
 
 pub kept_line : (table : PayTable) (coin : ℕ) (walked : Bool) (before : Option ℕ) (line : ClassLine) → KeptLine table coin walked before line → class_breach table coin walked before line ≡ None
-unfolding class_breach image_breach weight_breach value_breach mask_breach
+unfolding class_breach listed_breach walked_breach image_breach weight_breach value_breach mask_breach
 kept_line table coin walked before line k =
-    first_later _ _ (not_broken _ _ _ _ (ap not k.least))
-    ∙ first_later _ _ (kept_rising before line.hand k.above)
-    ∙ first_later _ _ (not_broken _ _ _ _ (kept_same _ _ k.weighs))
-    ∙ first_later _ _ (walked_when walked _ (λ t. not_broken _ _ _ _ (kept_same _ _ (k.worth t))))
-    ∙ first_later _ _ (walked_when walked _ (λ t. let l : best table coin line.hand ≤ value table coin line.hand line.mask = k.held t in let m : ltb (value table coin line.hand line.mask) (best table coin line.hand) ≡ false = grind (arith, nat_tests) in not_broken _ _ _ _ m))
+    let listed : listed_breach before line ≡ None =
+    first_later _ _ (not_broken _ _ _ _ (ap not k.least)) ∙ first_later _ _ (kept_rising before line.hand k.above) ∙ first_later _ _ (not_broken _ _ _ _ (kept_same _ _ k.weighs)) in
+    let asked : walked ≡ true → walked_breach table coin line ≡ None =
+    λ t. first_later _ _ (not_broken _ _ _ _ (kept_same _ _ (k.worth t)))
+    ∙ first_later _ _ (let l : best table coin line.hand ≤ value table coin line.hand line.mask = k.held t in let m : ltb (value table coin line.hand line.mask) (best table coin line.hand) ≡ false = grind (arith, nat_tests) in not_broken _ _ _ _ m) in
+    first_later _ _ listed ∙ first_later _ _ (walked_when walked (walked_breach table coin line) asked)
 
 -- ---- all class lines
 
 -- what stands at a row where a rule is broken
-pub break_at : PayTable → ℕ → ℕ → ℕ → Row → Option Break
+unfoldable pub break_at : PayTable → ℕ → ℕ → ℕ → Row → Option Break
 break_at table coin from count row = at row.place (class_breach table coin (in_range from count row.place) row.before row.line)
 
--- the first break of class lines from a place on, behind a class line with this index
-pub break_from : PayTable → ℕ → ℕ → ℕ → ℕ → Option ℕ → List ClassLine → Option Break
-break_from table coin from count place before lines = first_of (map (λ row. break_at table coin from count row) (rows_from place before lines))
+-- a row that keeps its rules
+abbrev pub KeptRow : PayTable → ℕ → ℕ → ℕ → Row → Type 0
+KeptRow table coin from count row = KeptLine table coin (in_range from count row.place) row.before row.line
 
--- class lines from a place on that keep their rules
-abbrev pub KeptFrom : PayTable → ℕ → ℕ → ℕ → ℕ → Option ℕ → List ClassLine → Type 0
-KeptFrom table coin from count place before [] = Unit {0}
-KeptFrom table coin from count place before (line ∷ lines) =
-    KeptLine table coin (in_range from count place) before line × KeptFrom table coin from count (place + 1) (Some (set_index line.hand)) lines
+rows_kept : (table : PayTable) (coin from count : ℕ) (lines : List ClassLine) → class_break table coin from count lines ≡ None → All (KeptRow table coin from count) (rows lines)
+unfolding class_break break_at
+rows_kept table coin from count lines e =
+    let none = none_all (break_at table coin from count) (rows lines) e in
+    λ i d l. line_kept table coin _ _ _ (at_none _ _ (none i d l))
 
-pub lines_kept : (table : PayTable) (coin from count place : ℕ) (before : Option ℕ) (lines : List ClassLine)
-    → break_from table coin from count place before lines ≡ None → KeptFrom table coin from count place before lines
-unfolding break_from break_at
-lines_kept table coin from count place before [] e = tt
-lines_kept table coin from count place before (line ∷ lines) e =
-    let first = first_none _ _ e in
-    (line_kept table coin (in_range from count place) before line (at_none place _ first.0), lines_kept table coin from count (place + 1) (Some (set_index line.hand)) lines first.1)
+kept_rows : (table : PayTable) (coin from count : ℕ) (lines : List ClassLine) → All (KeptRow table coin from count) (rows lines) → class_break table coin from count lines ≡ None
+unfolding class_break break_at
+kept_rows table coin from count lines k =
+    all_none (break_at table coin from count) (rows lines) (λ i d l. ap (λ b. at (get_or (rows lines) i d).place b) (kept_line table coin _ _ _ (k i d l)))
 
-pub kept_lines : (table : PayTable) (coin from count place : ℕ) (before : Option ℕ) (lines : List ClassLine)
-    → KeptFrom table coin from count place before lines → break_from table coin from count place before lines ≡ None
-unfolding break_from break_at
-kept_lines table coin from count place before [] k = refl
-kept_lines table coin from count place before (line ∷ lines) k =
-    first_later _ _ (ap (λ b. at place b) (kept_line table coin (in_range from count place) before line k.0))
-    ∙ kept_lines table coin from count (place + 1) (Some (set_index line.hand)) lines k.1
+-- what is told of each row is told of each line
+pub told_lines : (P : ClassLine → Type 0) (place : ℕ) (before : Option ℕ) (lines : List ClassLine) → All (λ row. P row.line) (rows_from place before lines) → All P lines
+told_lines P place before [] all = All-nil P
+told_lines P place before (line ∷ lines) all =
+    let row : Row = record { place = place; before = before; line = line } in
+    let more = rows_from (place + 1) (Some (set_index line.hand)) lines in
+    All-cons P line lines (All-head (λ r. P r.line) row more all) (told_lines P (place + 1) (Some (set_index line.hand)) lines (All-tail (λ r. P r.line) row more all))
 
-pub class_break_is : (table : PayTable) (coin from count : ℕ) (lines : List ClassLine) → class_break table coin from count lines ≡ break_from table coin from count 1 None lines
-unfolding class_break break_from break_at
-class_break_is table coin from count lines = refl
+-- what is told of each line is told of each row
+pub told_rows : (P : ClassLine → Type 0) (place : ℕ) (before : Option ℕ) (lines : List ClassLine) → All P lines → All (λ row. P row.line) (rows_from place before lines)
+told_rows P place before [] all = All-nil (λ row. P row.line)
+told_rows P place before (line ∷ lines) all =
+    All-cons (λ r. P r.line) (record { place = place; before = before; line = line }) (rows_from (place + 1) (Some (set_index line.hand)) lines) (All-head P line lines all)
+    (told_rows P (place + 1) (Some (set_index line.hand)) lines (All-tail P line lines all))
 
-pub break_none : (table : PayTable) (coin from count place : ℕ) (before : Option ℕ) → break_from table coin from count place before [] ≡ None
-unfolding break_from break_at
-break_none table coin from count place before = refl
+-- the places of rows are those of the lines
+pub places_within : (place : ℕ) (before : Option ℕ) (lines : List ClassLine) → All (λ row. (place ≤ row.place) × (row.place < place + length lines)) (rows_from place before lines)
+places_within place before [] = All-nil (λ row. (place ≤ row.place) × (row.place < place + 0))
+places_within place before (line ∷ lines) =
+    let rest = places_within (place + 1) (Some (set_index line.hand)) lines in
+    All-cons (λ row. (place ≤ row.place) × (row.place < place + length (line ∷ lines))) (record { place = place; before = before; line = line }) (rows_from (place + 1) (Some (set_index line.hand)) lines)
+    (omega arith, omega arith)
+    (λ i d l. (omega (arith, (rest i d l).0), omega (arith, (rest i d l).1)))
 
--- a class line that keeps its rules is passed over
-pub break_later : (table : PayTable) (coin from count place : ℕ) (before : Option ℕ) (line : ClassLine) (lines : List ClassLine) → class_breach table coin (in_range from count place) before line ≡ None
-    → break_from table coin from count place before (line ∷ lines) ≡ break_from table coin from count (place + 1) (Some (set_index line.hand)) lines
-unfolding break_from break_at
-break_later table coin from count place before line lines e = first_later _ _ (ap (λ b. at place b) e)
+-- each index is above the one before it
+abbrev Above : Row → Type 0
+Above row = IfSome row.before (λ b. b < set_index row.line.hand)
 
--- a class line that breaks a rule is found
-pub break_here : (table : PayTable) (coin from count place : ℕ) (before : Option ℕ) (line : ClassLine) (lines : List ClassLine) (breach : Breach) → class_breach table coin (in_range from count place) before line ≡ Some breach
-    → break_from table coin from count place before (line ∷ lines) ≡ Some (record { place = place; breach = breach })
-unfolding break_from break_at
-break_here table coin from count place before line lines breach e = first_here _ _ _ (ap (λ b. at place b) e)
+abbrev indexes : List ClassLine → List ℕ
+indexes lines = map (λ hand. set_index hand) (map (λ line. line.hand) lines)
 
--- what a kept line tells, told of each line
-pub each_kept : (P : ClassLine → Type 0) (table : PayTable) (coin from count place : ℕ) (before : Option ℕ) (lines : List ClassLine)
-    → ((walked : Bool) (last : Option ℕ) (line : ClassLine) → KeptLine table coin walked last line → P line)
-    → KeptFrom table coin from count place before lines → All P lines
-each_kept P table coin from count place before [] tells k = All-nil P
-each_kept P table coin from count place before (line ∷ lines) tells k =
-    All-cons P line lines (tells _ _ line k.0) (each_kept P table coin from count (place + 1) (Some (set_index line.hand)) lines tells k.1)
-
--- what a kept line tells where it is walked, told of each line in the range
-pub each_walked : (P : ClassLine → Type 0) (table : PayTable) (coin from count place : ℕ) (before : Option ℕ) (lines : List ClassLine)
-    → ((last : Option ℕ) (line : ClassLine) → KeptLine table coin true last line → P line)
-    → KeptFrom table coin from count place before lines
-    → (i : ℕ) (d : ClassLine) → i < length lines → from ≤ i + place → i + place < from + count → P (get_or lines i d)
-each_walked P table coin from count place before [] tells k i d l a b = absurd (omega arith)
-each_walked P table coin from count place before (line ∷ lines) tells k zero d l a b =
-    let low : from ≤ place = omega arith in
-    let high : place < from + count = omega arith in
-    let t : in_range from count place ≡ true = grind (arith, nat_tests) in
-    tells before line (subst (λ w. KeptLine table coin w before line) t k.0)
-each_walked P table coin from count place before (line ∷ lines) tells k (suc i) d l a b =
-    each_walked P table coin from count (place + 1) (Some (set_index line.hand)) lines tells k.1 i d (omega arith) (omega arith) (omega arith)
-
-pub rising_lines : (table : PayTable) (coin from count place : ℕ) (before : Option ℕ) (lines : List ClassLine)
-    → KeptFrom table coin from count place before lines → IsRising (map (λ hand. set_index hand) (map (λ line. line.hand) lines))
-rising_lines table coin from count place before [] k = tt
-rising_lines table coin from count place before (line ∷ []) k = (tt, tt)
-rising_lines table coin from count place before (line ∷ next ∷ lines) k =
-    let rest = rising_lines table coin from count (place + 1) (Some (set_index line.hand)) (next ∷ lines) k.1 in
-    let l : set_index line.hand < set_index next.hand = k.1.0.above in
-    ((l, below_down (set_index line.hand) (set_index next.hand) _ (omega arith) rest.0), rest)
-
--- lines that keep their rules, put together again
-pub from_parts : (table : PayTable) (coin from count place : ℕ) (before : Option ℕ) (lines : List ClassLine)
-    → All (λ line. is_representative line.hand ≡ true) lines
-    → IsRising (map (λ hand. set_index hand) (map (λ line. line.hand) lines))
-    → IfSome before (λ b. IsBelow b (map (λ hand. set_index hand) (map (λ line. line.hand) lines)))
-    → All (λ line. line.weight ≡ weight line.hand) lines
-    → ((i : ℕ) (d : ClassLine) → i < length lines → from ≤ i + place → i + place < from + count → (get_or lines i d).value ≡ best table coin (get_or lines i d).hand)
-    → ((i : ℕ) (d : ClassLine) → i < length lines → from ≤ i + place → i + place < from + count → best table coin (get_or lines i d).hand ≤ value table coin (get_or lines i d).hand (get_or lines i d).mask)
-    → KeptFrom table coin from count place before lines
-from_parts table coin from count place before [] least rising above weights values masks = tt
-from_parts table coin from count place before (line ∷ lines) least rising above weights values masks = (
-  record {
-    least = All-head (λ x. is_representative x.hand ≡ true) line lines least;
-    above = below_first before (set_index line.hand) _ above;
-    weighs = All-head (λ x. x.weight ≡ weight x.hand) line lines weights;
-    worth = λ t. values 0 line (omega arith) (in_from from count place t).0 (in_from from count place t).1;
-    held = λ t. masks 0 line (omega arith) (in_from from count place t).0 (in_from from count place t).1;
-  },
-  from_parts table coin from count (place + 1) (Some (set_index line.hand)) lines
-      (All-tail (λ x. is_representative x.hand ≡ true) line lines least)
-      rising.1
-      rising.0
-      (All-tail (λ x. x.weight ≡ weight x.hand) line lines weights)
-      (λ i d l a b. values (suc i) d (omega arith) (omega arith) (omega arith))
-      (λ i d l a b. masks (suc i) d (omega arith) (omega arith) (omega arith)),
-)
+pub rising_rows : (place : ℕ) (before : Option ℕ) (lines : List ClassLine) → All Above (rows_from place before lines) → IsRising (indexes lines) × IfSome before (λ b. IsBelow b (indexes lines))
+rising_rows place None [] all = (tt, tt)
+rising_rows place (Some b) [] all = (tt, tt)
+rising_rows place before (line ∷ lines) all =
+    let row : Row = record { place = place; before = before; line = line } in
+    let more = rows_from (place + 1) (Some (set_index line.hand)) lines in
+    let rest = rising_rows (place + 1) (Some (set_index line.hand)) lines (All-tail Above row more all) in
+    ((rest.1, rest.0), below_all before (All-head Above row more all) rest.1)
   where
-    below_first : (b : Option ℕ) (i : ℕ) (s : List ℕ) → IfSome b (λ x. IsBelow x (i ∷ s)) → IfSome b (λ x. x < i)
-    below_first None i s h = tt
-    below_first (Some x) i s h = h.0
+    below_all : (b : Option ℕ) → IfSome b (λ x. x < set_index line.hand) → IsBelow (set_index line.hand) (indexes lines) → IfSome b (λ x. IsBelow x (indexes (line ∷ lines)))
+    below_all None h below = tt
+    below_all (Some x) h below = (h, below_down x (set_index line.hand) (indexes lines) (omega (arith, h)) below)
 
-    in_from : (f n p : ℕ) → in_range f n p ≡ true → (f ≤ 0 + p) × (0 + p < f + n)
-    in_from f n p t =
-        let low : f ≤ p = grind (arith, nat_tests) in
-        let high : p < f + n = grind (arith, nat_tests) in
-        (omega arith, omega arith)
+pub rows_rising : (place : ℕ) (before : Option ℕ) (lines : List ClassLine) → IsRising (indexes lines) → IfSome before (λ b. IsBelow b (indexes lines)) → All Above (rows_from place before lines)
+rows_rising place before [] rising below = All-nil Above
+rows_rising place before (line ∷ lines) rising below =
+    All-cons Above (record { place = place; before = before; line = line }) (rows_from (place + 1) (Some (set_index line.hand)) lines) (first_above before below)
+    (rows_rising (place + 1) (Some (set_index line.hand)) lines rising.1 rising.0)
+  where
+    first_above : (b : Option ℕ) → IfSome b (λ x. IsBelow x (indexes (line ∷ lines))) → IfSome b (λ x. x < set_index line.hand)
+    first_above None h = tt
+    first_above (Some x) h = h.0
 
 -- ---- the return
 
@@ -251,7 +225,7 @@ from_parts table coin from count place before (line ∷ lines) least rising abov
 pub record KeptReturn (c : Certificate) : Type 0 where
   pub cover : sum_by (λ line. line.weight) c.classes ≡ choose c.table.deck 5
   pub total : c.sum ≡ sum_by (λ line. line.weight * line.value) c.classes
-  pub over : c.denominator ≡ denominator_of c.table.deck c.coin
+  pub over : c.denominator ≡ return_denominator c.table.deck c.coin
 
 return_kept : (c : Certificate) → return_breach c ≡ None → KeptReturn c
 unfolding return_breach cover_breach sum_breach denominator_breach
@@ -274,15 +248,14 @@ kept_return c k =
 
 -- ---- all lines
 
-pub all_kept : (from count : ℕ) (c : Certificate) → first_break from count c ≡ None → KeptFrom c.table c.coin from count 1 None c.classes × KeptReturn c
+pub all_kept : (from count : ℕ) (c : Certificate) → first_break from count c ≡ None → All (KeptRow c.table c.coin from count) (rows c.classes) × KeptReturn c
 unfolding first_break
 all_kept from count c e =
-    let first = first_none (class_break c.table c.coin from count c.classes) _ e in
-    let last = first_none (at (length c.classes + 1) (return_breach c)) [] first.1 in
-    (lines_kept c.table c.coin from count 1 None c.classes (sym (class_break_is c.table c.coin from count c.classes) ∙ first.0), return_kept c (at_none (length c.classes + 1) (return_breach c) last.0))
+    let both = two_none (class_break c.table c.coin from count c.classes) (at (length c.classes + 1) (return_breach c)) e in
+    (rows_kept c.table c.coin from count c.classes both.0, return_kept c (at_none (length c.classes + 1) (return_breach c) both.1))
 
-pub kept_all : (from count : ℕ) (c : Certificate) → KeptFrom c.table c.coin from count 1 None c.classes → KeptReturn c → first_break from count c ≡ None
+pub kept_all : (from count : ℕ) (c : Certificate) → All (KeptRow c.table c.coin from count) (rows c.classes) → KeptReturn c → first_break from count c ≡ None
 unfolding first_break
 kept_all from count c k r =
-    first_later _ _ (class_break_is c.table c.coin from count c.classes ∙ kept_lines c.table c.coin from count 1 None c.classes k)
+    first_later _ _ (kept_rows c.table c.coin from count c.classes k)
     ∙ first_later _ _ (ap (λ b. at (length c.classes + 1) b) (kept_return c r))

@@ -1,14 +1,15 @@
-pub mod Breaches
 pub mod Cards_grammar
 pub mod Certificates_grammar
 pub mod Classes_grammar
 pub mod KeptRules
 pub mod TrueOnes
 pub mod EveryDeals
-pub mod Counted_grammar
+pub mod Listed_grammar
 pub mod Read_grammar
 pub mod Lines_grammar
 pub mod Walked
 pub mod Verdicts
 pub mod Answered
 pub mod PlainCertificates
+pub mod FewClasses
+pub mod ShortTexts

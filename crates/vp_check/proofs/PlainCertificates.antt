@@ -47,9 +47,9 @@ plain_classes n (line ∷ lines) all = (plain_class n line all.0, plain_classes 
 plain_certificate : (c : Certificate) → IsCertificate c → IsPlainText (certificate_text c)
 unfolding certificate_text cert_text
 plain_certificate c is =
-    let coin : c.coin < 2 ^ 64 = omega (arith, is.most_coin, is.table.most_coins) in
+    let coin : c.coin < 2 ^ 64 = omega (arith, is.bet.within, is.bet.rules.most_coins) in
     let last : Text = return_words c.sum c.denominator ∷ (codes "end" ∷ []) ∷ [] in
-    plain_texts (table_text c.table) (cert_text c) (plain_table c.table is.table) (
+    plain_texts (table_text c.table) (cert_text c) (plain_table c.table is.bet.rules) (
       (omega arith, (plain_key (codes "cert") (omega arith) refl, (plain_number c.coin coin, tt))),
       plain_texts (map class_words c.classes) last (plain_classes c.table.deck c.classes (of_all (IsClassLine c.table.deck) c.classes is.classes))
           (plain_return c.sum c.denominator is.sum is.denominator, ((omega arith, (plain_key (codes "end") (omega arith) refl, tt)), tt)),

@@ -16,15 +16,16 @@ use Rattle.vp_pay.specs.declared.table.PayTable.{PayTable}
 use Rattle.vp_pay.proofs.Tables.{Exact-table}
 use Rattle.vp_check.specs.Certificates.{Certificate}
 use Rattle.vp_check.specs.Checking.{certificate_of, line_number}
-use Rattle.vp_check.specs.Counting.{counted_rows, ReadParts, read_from, read_parts_at, read_of, Says}
+use Rattle.vp_check.specs.Listing.{comes_to, counted_rows, none_listed, ReadParts, read_from, read_parts_at, read_of, Says}
 use Rattle.vp_check.specs.Read.{certificate_read, AreAt, IsRead}
 use Rattle.vp_check.specs.Reading.{bet_line, class_lines, end_line, CertificateParts, certificate_from, certificate_parts_at, certificate_at}
 use Rattle.vp_check.specs.declared.class_line.ClassLine.{ClassLine}
-use Rattle.vp_check.specs.declared.counted.Counted.{Counted}
+use Rattle.vp_check.specs.Rows.{classes_of, numbered_classes}
 use Rattle.vp_check.specs.declared.numbered.Numbered.{Numbered}
-use Rattle.vp_check.specs.declared.read_certificate.ReadCertificate.{ReadCertificate}
+use Rattle.vp_check.specs.declared.reading.Counted.{Counted}
+use Rattle.vp_check.specs.declared.reading.ReadCertificate.{ReadCertificate}
 use Rattle.vp_check.proofs.Certificates_grammar.{Exact-bet, certificate_found}
-use Rattle.vp_check.proofs.Counted_grammar.{classes_of, lines_of, numbers_of, RowsSeen, rows_follow}
+use Rattle.vp_check.proofs.Listed_grammar.{lines_of, numbers_of, ListedSeen, rows_follow}
 use Rattle.vp_text.proofs.Follows.{Follows, follows_made, follows_same, follows_then}
 
 -- ---- numbers of lines
@@ -86,7 +87,7 @@ record BetSeen (lines : List WordLine) (x : BehindBet) (y : (List ClassLine × (
   at : WordLine
   split : lines ≡ front ++ at ∷ rest
   same : numbers_of front ≡ lines_of x.0.0
-  count : x.0.1.count ≡ length x.0.0
+  comes : x.0.1.listed ≡ comes_to none_listed x.0.0
   return_line : x.0.1.return_line ≡ at.line
 
 abbrev rows_then : ℕ → Feed → Result (BehindBet × Feed) ℕ
@@ -98,16 +99,16 @@ classes_then n feed = class_lines n feed >>= (λ a. end_line a.1 >>= (λ e. Ok (
 bet_seen : (n : ℕ) (feed : Feed) → Follows (BetSeen feed.lines) (rows_then n feed) (classes_then n feed)
 unfolding seen_rows
 bet_seen n feed =
-    follows_then (RowsSeen feed.lines) (BetSeen feed.lines) end_line
+    follows_then (ListedSeen n feed.lines) (BetSeen feed.lines) end_line
     (λ a b e middle left r. record {
       seen = ap (λ (v : List ClassLine × (ℕ × ℕ)). (v, e)) r.seen;
       rest = middle.lines;
-      front = r.at.front;
-      at = r.at.at;
-      split = r.at.split;
-      same = r.at.same;
-      count = r.at.count;
-      return_line = r.at.return_line;
+      front = r.front;
+      at = r.at;
+      split = r.split;
+      same = r.same;
+      comes = r.comes;
+      return_line = r.return_line;
     })
     (counted_rows n feed) (class_lines n feed) (rows_follow n feed)
 
@@ -121,7 +122,7 @@ record TableSeen (lines : List WordLine) (x : ℕ × BehindBet) (y : ℕ × ((Li
   at : WordLine
   split : lines ≡ bet ++ (front ++ at ∷ rest)
   same : numbers_of front ≡ lines_of x.1.0.0
-  count : x.1.0.1.count ≡ length x.1.0.0
+  comes : x.1.0.1.listed ≡ comes_to none_listed x.1.0.0
   return_line : x.1.0.1.return_line ≡ at.line
 
 one_line_long : (lines : List WordLine) (words : List Word) → text_of lines ≡ words ∷ [] → length lines ≡ 1
@@ -147,7 +148,7 @@ table_seen table feed is =
       at = s.at;
       split = starts.lines ∙ ap (λ (ls : List WordLine). starts.front ++ ls) s.split;
       same = s.same;
-      count = s.count;
+      comes = s.comes;
       return_line = s.return_line;
     })
     (rows_then table.deck left) (classes_then table.deck left) (bet_seen table.deck left))
@@ -155,12 +156,12 @@ table_seen table feed is =
 -- what was read of a text, and where
 record TextSeen (feed : Feed) (r : ReadCertificate) (c : Certificate) (left : Feed) : Type 0 where
   seen : c ≡ certificate_read r
-  count : r.count ≡ length r.rows
-  lines : LinesAt feed r.table r.rows r.return_line
+  comes : r.counted.listed ≡ comes_to none_listed r.rows
+  lines : LinesAt feed r.table r.rows r.counted.return_line
 
 record PartsSeen (feed : Feed) (p : ReadParts) (q : CertificateParts) (left : Feed) : Type 0 where
   seen : q ≡ (p.0, (p.1.0, (seen_rows p.1.1.0, p.1.1.1)))
-  count : p.1.1.0.1.count ≡ length p.1.1.0.0
+  comes : p.1.1.0.1.listed ≡ comes_to none_listed p.1.1.0.0
   lines : LinesAt feed p.0 p.1.1.0.0 p.1.1.0.1.return_line
 
 parts_seen : (feed : Feed) → Follows (PartsSeen feed) (read_parts_at feed) (certificate_parts_at feed)
@@ -170,7 +171,7 @@ parts_seen feed =
     follows_made (TableSeen left.lines) (PartsSeen feed) (λ (x : ℕ × BehindBet). (table, x)) (λ (y : ℕ × ((List ClassLine × (ℕ × ℕ)) × Unit {0})). (table, y))
     (λ x y after s. record {
       seen = ap (λ (v : ℕ × ((List ClassLine × (ℕ × ℕ)) × Unit {0})). (table, v)) s.seen;
-      count = s.count;
+      comes = s.comes;
       lines = record {
         before = t.1.front ++ s.bet;
         front = s.front;
@@ -193,7 +194,7 @@ text_seen : (feed : Feed) → Follows (TextSeen feed) (read_parts_at feed >>= (�
 unfolding seen_rows
 text_seen feed =
     follows_made (PartsSeen feed) (TextSeen feed) read_from certificate_from
-    (λ p q left s. record { seen = ap certificate_from s.seen; count = s.count; lines = s.lines })
+    (λ p q left s. record { seen = ap certificate_from s.seen; comes = s.comes; lines = s.lines })
     (read_parts_at feed) (certificate_parts_at feed) (parts_seen feed)
 
 -- ---- whole texts
@@ -201,8 +202,8 @@ text_seen feed =
 -- a certificate that was read, and the one that the text says
 record Read (feed : Feed) (r : ReadCertificate) (text : Result Certificate ℕ) : Type 0 where
   says : text ≡ Ok (certificate_read r)
-  count : r.count ≡ length r.rows
-  lines : LinesAt feed r.table r.rows r.return_line
+  comes : r.counted.listed ≡ comes_to none_listed r.rows
+  lines : LinesAt feed r.table r.rows r.counted.return_line
 
 abbrev certificate_end : Certificate × Feed → Result Certificate ℕ
 certificate_end a = ended a.0 a.1.lines
@@ -225,7 +226,7 @@ whole_ok feed (Ok p) second both r e = at_the_end p.1.lines refl e
         (record {
           says = ap (λ (s : Result (Certificate × Feed) ℕ). s >>= certificate_end) both.read
               ∙ (ap (λ (ls : List WordLine). ended both.value ls) none ∙ ap (λ (c : Certificate). done c) both.related.seen);
-          count = both.related.count;
+          comes = both.related.comes;
           lines = both.related.lines;
         })
     at_the_end (line ∷ lines) some h = absurd cc
@@ -255,9 +256,9 @@ is_read bytes r e =
     record {
       says = t.says;
       certificate = (certificate_found bytes (certificate_read r) t.says).grammar;
-      count = sym t.count;
+      comes = t.comes;
       lines = are_at (certificate_read r) (feed_of bytes) t.lines.before t.lines.front (t.lines.at ∷ t.lines.rest) r.rows 1 t.lines.split t.lines.many t.lines.same;
-      return_line = return_at (certificate_read r) (feed_of bytes) r.rows r.return_line t.lines;
+      return_line = return_at (certificate_read r) (feed_of bytes) r.rows r.counted.return_line t.lines;
     }
 
 is_refused : (bytes : List ℕ) (n : ℕ) → read_of bytes ≡ Err n → certificate_of bytes ≡ Err n

@@ -2,17 +2,19 @@
 use Rattle.std.proofs.Common.{◌≡◌, ℕ, ◌+◌, ◌*◌, ◌<◌, ◌≤◌, true, None, List, [], ◌∷◌, length, map, get_or, refl, ap, sym, subst, ◌∙◌, arith}
 use Rattle.std.specs.List.{All, sum_by}
 use Rattle.std.specs.List.Sorted.{IsStrictlyIncreasing}
+use Rattle.std.proofs.lemmas.Bool.Decides.{nat_tests}
 use Rattle.std.proofs.lemmas.List.{length-map}
 use Rattle.std.proofs.lemmas.List.Elements.{All-head, All-tail, All-map}
 use Rattle.std.proofs.lemmas.List.Sums.{sum_by-cons}
 use Rattle.vp_pay.specs.declared.table.PayTable.{PayTable}
+use Rattle.vp_pay.specs.Bets.{IsBet}
 use Rattle.vp_pay.specs.Table.{IsTable}
 use Rattle.vp_sets.specs.Index.{set_index}
 use Rattle.vp_card.proofs.Rising.{rising_from}
 use Rattle.vp_sets.proofs.Colex.{increasing_from}
-use Rattle.vp_draws.specs.Draws.{best, least_best, sum_of_best, value}
+use Rattle.vp_draws.specs.Draws.{best, least_best, return_denominator, sum_of_best, value}
 use Rattle.vp_draws.proofs.Chosen.{least_best_small, least_best_value, value_le_best}
-use Rattle.vp_draws.proofs.Bounds.{best_fits, sum_of_best_fits}
+use Rattle.vp_draws.proofs.Bounds.{best_fits, denominator_fits, sum_of_best_fits}
 use Rattle.vp_draws.proofs.TurnedValues.{best_by_classes}
 use Rattle.vp_suit.specs.Classes.{IsDeal, is_representative, representatives, weight}
 use Rattle.vp_suit.proofs.TurnedDraws.{dealt_is}
@@ -21,11 +23,10 @@ use Rattle.vp_suit.proofs.ClassLaws.{representatives_only, representatives_rise}
 use Rattle.vp_suit.proofs.Cover.{weights_of_all, cover}
 use Rattle.vp_check.specs.Certificates.{Certificate, IsCertificate, IsClassLine}
 use Rattle.vp_check.specs.EveryDeal.{SumsAllDeals}
-use Rattle.vp_check.specs.Rules.{denominator_of}
+use Rattle.vp_check.specs.Rules.{in_range, rows}
 use Rattle.vp_check.specs.Truth.{AllWalked, hands, KeepsRules, IsTrueOver, IsTrueCertificate, due_line, due_certificate}
 use Rattle.vp_check.specs.declared.class_line.ClassLine.{ClassLine}
-use Rattle.vp_check.proofs.Breaches.{denominator_fits}
-use Rattle.vp_check.proofs.KeptRules.{all_kept, kept_all, each_kept, each_walked, rising_lines, from_parts}
+use Rattle.vp_check.proofs.KeptRules.{all_kept, kept_all, told_lines, told_rows, places_within, rising_rows, rows_rising}
 
 -- ---- no broken rule is to keep all rules
 
@@ -36,16 +37,13 @@ mask_le table coin line is = value_le_best table coin line.hand line.mask is.mas
 pub keeps_rules : (from count : ℕ) (c : Certificate) → IsCertificate c → IsTrueOver from count c → KeepsRules from count c
 keeps_rules from count c is e =
     let k = all_kept from count c e in
+    let masks = told_rows (λ line. value c.table c.coin line.hand line.mask ≤ best c.table c.coin line.hand) 1 None c.classes (λ i d l. mask_le c.table c.coin (get_or c.classes i d) (is.classes i d l)) in
     record {
-      least = each_kept (λ line. is_representative line.hand ≡ true) c.table c.coin from count 1 None c.classes (λ walked last line h. h.least) k.0;
-      rising = increasing_from _ (rising_lines c.table c.coin from count 1 None c.classes k.0);
-      weights = each_kept (λ line. line.weight ≡ weight line.hand) c.table c.coin from count 1 None c.classes (λ walked last line h. h.weighs) k.0;
-      values = each_walked (λ line. line.value ≡ best c.table c.coin line.hand) c.table c.coin from count 1 None c.classes (λ last line h. h.worth refl) k.0;
-      masks = λ i d l a b.
-          let high : best c.table c.coin (get_or c.classes i d).hand ≤ value c.table c.coin (get_or c.classes i d).hand (get_or c.classes i d).mask =
-          each_walked (λ line. best c.table c.coin line.hand ≤ value c.table c.coin line.hand line.mask) c.table c.coin from count 1 None c.classes (λ last line h. h.held refl) k.0 i d l a b in
-          let low : value c.table c.coin (get_or c.classes i d).hand (get_or c.classes i d).mask ≤ best c.table c.coin (get_or c.classes i d).hand = mask_le c.table c.coin (get_or c.classes i d) (is.classes i d l) in
-          omega arith;
+      least = told_lines (λ line. is_representative line.hand ≡ true) 1 None c.classes (λ i d l. (k.0 i d l).least);
+      rising = increasing_from _ (rising_rows 1 None c.classes (λ i d l. (k.0 i d l).above)).0;
+      weights = told_lines (λ line. line.weight ≡ weight line.hand) 1 None c.classes (λ i d l. (k.0 i d l).weighs);
+      values = λ i d l. (k.0 i d l).worth;
+      masks = λ i d l walked. omega (arith, (k.0 i d l).held walked, masks i d l);
       cover = k.1.cover;
       sum = k.1.total;
       denominator = k.1.over;
@@ -53,39 +51,56 @@ keeps_rules from count c is e =
 
 pub rules_kept : (from count : ℕ) (c : Certificate) → KeepsRules from count c → IsTrueOver from count c
 rules_kept from count c k =
-    kept_all from count c
-    (from_parts c.table c.coin from count 1 None c.classes k.least (rising_from _ k.rising) tt k.weights k.values (λ i d l a b. let e : value c.table c.coin (get_or c.classes i d).hand (get_or c.classes i d).mask ≡ best c.table c.coin (get_or c.classes i d).hand = k.masks i d l a b in omega arith))
+    let least = told_rows (λ line. is_representative line.hand ≡ true) 1 None c.classes k.least in
+    let above = rows_rising 1 None c.classes (rising_from _ k.rising) tt in
+    let weights = told_rows (λ line. line.weight ≡ weight line.hand) 1 None c.classes k.weights in
+    kept_all from count c (λ i d l. record {
+      least = least i d l;
+      above = above i d l;
+      weighs = weights i d l;
+      worth = k.values i d l;
+      held = λ walked. omega (arith, k.masks i d l walked);
+    })
     (record { cover = k.cover; total = k.sum; over = k.denominator })
 
--- where all class lines are walked, no more is asked of them
-pub all_walked_true : (from count : ℕ) (c : Certificate) → IsCertificate c → from ≤ 1 → length c.classes < from + count → IsTrueOver from count c → IsTrueCertificate c
-all_walked_true from count c is low high e =
+-- ---- where fewer lines are walked, no more is asked
+
+-- what is told of walked lines is told of those lines among them that are walked in another range
+walked_fewer : (P : ClassLine → Type 0) (from count first many : ℕ) (lines : List ClassLine)
+    → ((place : ℕ) → 1 ≤ place → place ≤ length lines → in_range first many place ≡ true → in_range from count place ≡ true)
+    → AllWalked from count P lines → AllWalked first many P lines
+walked_fewer P from count first many lines fewer all i d l walked =
+    let within = places_within 1 None lines i d l in
+    all i d l (fewer (get_or (rows lines) i d).place within.0 (omega (arith, within.1)) walked)
+
+true_fewer : (from count first many : ℕ) (c : Certificate) → IsCertificate c
+    → ((place : ℕ) → 1 ≤ place → place ≤ length c.classes → in_range first many place ≡ true → in_range from count place ≡ true)
+    → IsTrueOver from count c → IsTrueOver first many c
+true_fewer from count first many c is fewer e =
     let k : KeepsRules from count c = keeps_rules from count c is e in
-    rules_kept 1 (length c.classes) c (record {
+    rules_kept first many c (record {
       least = k.least;
       rising = k.rising;
       weights = k.weights;
-      values = λ i d l a b. k.values i d l (omega arith) (omega arith);
-      masks = λ i d l a b. k.masks i d l (omega arith) (omega arith);
+      values = walked_fewer (λ line. line.value ≡ best c.table c.coin line.hand) from count first many c.classes fewer k.values;
+      masks = walked_fewer (λ line. value c.table c.coin line.hand line.mask ≡ best c.table c.coin line.hand) from count first many c.classes fewer k.masks;
       cover = k.cover;
       sum = k.sum;
       denominator = k.denominator;
     })
+
+walked_there : (from count place many : ℕ) → from ≤ 1 → many < from + count → 1 ≤ place → place ≤ many → in_range from count place ≡ true
+walked_there from count place many low high some few = grind (arith, nat_tests)
+
+-- where all class lines are walked, the certificate is true
+pub all_walked_true : (from count : ℕ) (c : Certificate) → IsCertificate c → from ≤ 1 → length c.classes < from + count → IsTrueOver from count c → IsTrueCertificate c
+all_walked_true from count c is low high =
+    true_fewer from count 1 (length c.classes) c is (λ place some few walked. walked_there from count place (length c.classes) low high some few)
 
 -- a true certificate is true over whatever lines are walked
 pub true_anywhere : (from count : ℕ) (c : Certificate) → IsCertificate c → IsTrueCertificate c → IsTrueOver from count c
-true_anywhere from count c is e =
-    let k : KeepsRules 1 (length c.classes) c = keeps_rules 1 (length c.classes) c is e in
-    rules_kept from count c (record {
-      least = k.least;
-      rising = k.rising;
-      weights = k.weights;
-      values = λ i d l a b. k.values i d l (omega arith) (omega arith);
-      masks = λ i d l a b. k.masks i d l (omega arith) (omega arith);
-      cover = k.cover;
-      sum = k.sum;
-      denominator = k.denominator;
-    })
+true_anywhere from count c is =
+    true_fewer 1 (length c.classes) from count c is (λ place some few walked. walked_there 1 (length c.classes) place (length c.classes) (omega arith) (omega arith) some few)
 
 -- ---- sums over class lines are sums over their cards
 
@@ -105,14 +120,16 @@ pub true_classes : (from count : ℕ) (c : Certificate) → IsCertificate c → 
 true_classes from count c is k =
     let each : All (λ cards. IsDeal c.table.deck cards × (is_representative cards ≡ true)) (hands c) =
     All-map (λ cards. IsDeal c.table.deck cards × (is_representative cards ≡ true)) (λ line. line.hand) c.classes (λ i d l. ((is.classes i d l).deal, k.least i d l)) in
-    cover c.table.deck (hands c) is.table.least_deck (record { each = each; rise = k.rising }) (sym (sum_same (λ line. line.weight) (λ cards. weight cards) c.classes k.weights) ∙ k.cover)
+    cover c.table.deck (hands c) is.bet.rules.known_deck.0 (record { each = each; rise = k.rising }) (sym (sum_same (λ line. line.weight) (λ cards. weight cards) c.classes k.weights) ∙ k.cover)
 
--- all lines are walked
-all_walked : (P : ClassLine → Type 0) (lines : List ClassLine) → AllWalked 1 (length lines) P lines → All P lines
-all_walked P lines h i d l = h i d l (omega arith) (omega arith)
+-- what is told of all walked lines, where all are
+pub all_walked : (P : ClassLine → Type 0) (lines : List ClassLine) → AllWalked 1 (length lines) P lines → All P lines
+all_walked P lines all =
+    let within = places_within 1 None lines in
+    told_lines P 1 None lines (λ i d l. all i d l (walked_there 1 (length lines) (get_or (rows lines) i d).place (length lines) (omega arith) (omega arith) (within i d l).0 (omega (arith, (within i d l).1))))
 
 walked_all : (P : ClassLine → Type 0) (from count : ℕ) (lines : List ClassLine) → All P lines → AllWalked from count P lines
-walked_all P from count lines h i d l a b = h i d l
+walked_all P from count lines all i d l walked = told_rows P 1 None lines all i d l
 
 true_sum : (c : Certificate) → IsCertificate c → KeepsRules 1 (length c.classes) c → c.sum ≡ sum_of_best c.table c.coin
 true_sum c is k =
@@ -122,7 +139,7 @@ true_sum c is k =
     k.sum
     ∙ sum_same (λ line. line.weight * line.value) (λ cards. weight cards * best c.table c.coin cards) c.classes products
     ∙ ap (λ (x : List (List ℕ)). sum_by (λ cards. weight cards * best c.table c.coin cards) x) (true_classes 1 (length c.classes) c is k)
-    ∙ best_by_classes c.coin c.table is.table.least_deck
+    ∙ best_by_classes c.coin c.table is.bet.rules.known_deck.0
 
 pub sums_all_deals : (c : Certificate) → IsCertificate c → IsTrueCertificate c → SumsAllDeals c
 sums_all_deals c is e =
@@ -141,16 +158,14 @@ due_class_line table coin cards t d = record {
   value = best_fits table coin cards t (dealt_is table.deck cards d);
 }
 
-pub due_is_certificate : (table : PayTable) (coin : ℕ) → IsTable table → 1 ≤ coin → coin ≤ table.coins → IsCertificate (due_certificate table coin)
-unfolding due_certificate denominator_of
-due_is_certificate table coin t some most = record {
-  table = t;
-  some_coin = some;
-  most_coin = most;
-  classes = All-map (IsClassLine table.deck) (due_line table coin) (representatives table.deck) (λ i d l. due_class_line table coin (get_or (representatives table.deck) i d) t (representatives_only table.deck i d l).0);
+pub due_is_certificate : (table : PayTable) (coin : ℕ) → IsBet table coin → IsCertificate (due_certificate table coin)
+unfolding due_certificate return_denominator
+due_is_certificate table coin bet = record {
+  bet = bet;
+  classes = All-map (IsClassLine table.deck) (due_line table coin) (representatives table.deck) (λ i d l. due_class_line table coin (get_or (representatives table.deck) i d) bet.rules (representatives_only table.deck i d l).0);
   most_classes = omega (arith, length-map (representatives table.deck) (due_line table coin));
-  sum = sum_of_best_fits table coin t;
-  denominator = denominator_fits table.deck coin t.least_deck t.greatest_deck (let m : table.coins ≤ 5 = t.most_coins in omega arith);
+  sum = sum_of_best_fits table coin bet.rules;
+  denominator = denominator_fits table.deck coin bet.rules.known_deck (omega (arith, bet.within, bet.rules.most_coins));
 }
 
 due_hands : (table : PayTable) (coin : ℕ) (rs : List (List ℕ)) → map (λ line. line.hand) (map (due_line table coin) rs) ≡ rs
@@ -181,8 +196,8 @@ due_keeps from count table coin t =
       weights = due_weights table coin;
       values = walked_all (λ line. line.value ≡ best table coin line.hand) from count lines (due_lines (λ line. line.value ≡ best table coin line.hand) table coin (λ cards d s. refl));
       masks = walked_all (λ line. value table coin line.hand line.mask ≡ best table coin line.hand) from count lines (due_lines (λ line. value table coin line.hand line.mask ≡ best table coin line.hand) table coin (λ cards d s. least_best_value table coin cards));
-      cover = sum_same (λ line. line.weight) (λ cards. weight cards) lines (due_weights table coin) ∙ ap (λ (x : List (List ℕ)). sum_by (λ cards. weight cards) x) back ∙ weights_of_all table.deck t.least_deck;
-      sum = sym (sum_same (λ line. line.weight * line.value) (λ cards. weight cards * best table coin cards) lines (due_products table coin) ∙ ap (λ (x : List (List ℕ)). sum_by (λ cards. weight cards * best table coin cards) x) back ∙ best_by_classes coin table t.least_deck);
+      cover = sum_same (λ line. line.weight) (λ cards. weight cards) lines (due_weights table coin) ∙ ap (λ (x : List (List ℕ)). sum_by (λ cards. weight cards) x) back ∙ weights_of_all table.deck t.known_deck.0;
+      sum = sym (sum_same (λ line. line.weight * line.value) (λ cards. weight cards * best table coin cards) lines (due_products table coin) ∙ ap (λ (x : List (List ℕ)). sum_by (λ cards. weight cards * best table coin cards) x) back ∙ best_by_classes coin table t.known_deck.0);
       denominator = refl;
     }
 

@@ -1,7 +1,7 @@
 -- What a certificate says, and which certificates are in the grammar.
 use Rattle.std.specs.Prelude.{ℕ, ◌≤◌, ◌<◌, ◌^◌, List, length}
 use Rattle.std.specs.List.{All}
-use Rattle.vp_pay.specs.Table.{IsTable}
+use Rattle.vp_pay.specs.Bets.{IsBet}
 use Rattle.vp_pay.specs.declared.table.PayTable.{PayTable}
 use Rattle.vp_suit.specs.Classes.{IsDeal, representatives}
 use Rattle.vp_check.specs.declared.class_line.ClassLine.{ClassLine}
@@ -22,11 +22,9 @@ pub record IsClassLine (n : ℕ) (line : ClassLine) : Type 0 where
   pub mask : line.mask < 32
   pub value : line.value < 2 ^ 64
 
--- a certificate in the grammar: a bet that the table has, at most as many class lines as the deck has classes, and numbers
+-- a certificate in the grammar: a valid pay table and a bet that it has, at most as many class lines as the deck has classes, and numbers
 pub record IsCertificate (c : Certificate) : Type 0 where
-  pub table : IsTable c.table
-  pub some_coin : 1 ≤ c.coin
-  pub most_coin : c.coin ≤ c.table.coins
+  pub bet : IsBet c.table c.coin
   pub classes : All (IsClassLine c.table.deck) c.classes
   pub most_classes : length c.classes ≤ length (representatives c.table.deck)
   pub sum : c.sum < 2 ^ 64

@@ -1,11 +1,10 @@
 -- What a true certificate tells of every deal.
 use Rattle.std.specs.Prelude.{◌≡◌, ℕ, ◌<◌, ◌≤◌, List}
 use Rattle.std.specs.List.{Contains}
-use Rattle.vp_draws.specs.Draws.{sum_of_best, value}
+use Rattle.vp_draws.specs.Draws.{IsMean, return_denominator, sum_of_best, total, value}
 use Rattle.vp_suit.specs.Classes.{IsDeal, representatives}
 use Rattle.vp_suit.specs.Turns.{carried, turn}
 use Rattle.vp_check.specs.Certificates.{Certificate}
-use Rattle.vp_check.specs.Rules.{denominator_of}
 use Rattle.vp_check.specs.Truth.{AllWalked, hands}
 use Rattle.vp_check.specs.declared.class_line.ClassLine.{ClassLine}
 
@@ -13,7 +12,7 @@ use Rattle.vp_check.specs.declared.class_line.ClassLine.{ClassLine}
 pub record SumsAllDeals (c : Certificate) : Type 0 where
   pub classes : hands c ≡ representatives c.table.deck
   pub sum : c.sum ≡ sum_of_best c.table c.coin
-  pub denominator : c.denominator ≡ denominator_of c.table.deck c.coin
+  pub denominator : c.denominator ≡ return_denominator c.table.deck c.coin
 
 -- a printed hold of a deal: a turn of the suits makes the deal a class line's, and carries the hold to that line's mask
 pub record IsPrintedHold (c : Certificate) (cards : List ℕ) (mask : ℕ) (line : ClassLine) : Type 0 where
@@ -30,9 +29,11 @@ pub record PrintedHold (c : Certificate) (cards : List ℕ) : Type 0 where
   pub line : ClassLine
   pub printed : IsPrintedHold c cards mask line
 
--- a hold is worth what the line says, and no other of the 32 holds is worth more
+-- a hold is worth what the line says, which over the common denominator is the mean of the payments over all draws; and no other of
+-- the 32 holds is worth more
 pub record IsBest (c : Certificate) (cards : List ℕ) (mask said : ℕ) : Type 0 where
   pub said_value : value c.table c.coin cards mask ≡ said
+  pub mean : IsMean c.table.deck cards mask (total c.table c.coin cards mask) said
   pub greatest : (other : ℕ) → other < 32 → value c.table c.coin cards other ≤ value c.table c.coin cards mask
 
 -- the certificate tells every deal from the deck: each has a printed hold, each printed hold is best, and the return is that of all deals

@@ -1,6 +1,6 @@
 pub mod Certificates
 pub mod Checking
-pub mod Counting
+pub mod Listing
 pub mod Read
 pub mod Reading
 pub mod Rows

@@ -37,16 +37,6 @@ class_of n words = do
   line ← ended (record { hand = cards.0; weight = weight.0; mask = mask.0; value = value.0 }) value.1
   of_deck n line
 
--- a class line may follow these: there are fewer than a deck of n has classes
-abbrev pub may_follow : ℕ → List ClassLine → ClassLine → Option ClassLine
-may_follow n lines line = if nat_lt (length lines) (length (representatives n)) then Some line else None
-
--- a class line behind these
-unfoldable pub next_class_of : ℕ → List ClassLine → List Word → Option ClassLine
-next_class_of n lines words = do
-  line ← class_of n words
-  may_follow n lines line
-
 -- ---- the return
 
 -- `return`, a number, `/`, and a number
@@ -64,10 +54,20 @@ return_of words = do
 abbrev pub bet_line : ℕ → Reader ℕ
 bet_line coins = one_line (keyed (codes "cert") (number_within 1 coins))
 
+-- a class line, or the return
+unfoldable pub row_of : ℕ → List Word → Option (ClassLine ⊎ (ℕ × ℕ))
+row_of n words = if next_is (codes "return") words then option_map inr (return_of words) else option_map inl (class_of n words)
+
+-- a class line may follow these where there are fewer than a deck of n has classes; the return may follow any
+abbrev pub may_follow : ℕ → List ClassLine → ClassLine ⊎ (ℕ × ℕ) → Option (ClassLine ⊎ (ℕ × ℕ))
+may_follow n lines (inl line) = if nat_lt (length lines) (length (representatives n)) then Some (inl line) else None
+may_follow n lines (inr r) = Some (inr r)
+
 -- a line behind these class lines is one more, or the return
 unfoldable pub class_or_return : ℕ → List ClassLine → List Word → Option (ClassLine ⊎ (ℕ × ℕ))
-class_or_return n lines words =
-    if next_is (codes "return") words then option_map inr (return_of words) else option_map inl (next_class_of n lines words)
+class_or_return n lines words = do
+  row ← row_of n words
+  may_follow n lines row
 
 -- class lines up to the return
 abbrev pub class_lines : ℕ → Reader (List ClassLine × (ℕ × ℕ))

@@ -1,10 +1,9 @@
 -- The rules of a certificate that is in the grammar, and the first that is broken.
 use Rattle.std.specs.Prelude.{ℕ, ◌+◌, ◌*◌, Bool, not, ◌&&◌, ◌==◌, nat_le, nat_lt, List, [], ◌∷◌, length, map, sum_by, Option, Some, None, option_map, if◌then◌else◌}
 use Rattle.vp_pay.specs.declared.table.PayTable.{PayTable}
-use Rattle.vp_sets.specs.Draws.{common}
 use Rattle.vp_sets.specs.Index.{set_index}
 use Rattle.vp_sets.specs.Sets.{choose}
-use Rattle.vp_draws.specs.Draws.{best, value}
+use Rattle.vp_draws.specs.Draws.{best, return_denominator, value}
 use Rattle.vp_suit.specs.Classes.{is_representative, representative, weight}
 use Rattle.vp_check.specs.Certificates.{Certificate}
 use Rattle.vp_check.specs.declared.class_line.ClassLine.{ClassLine}
@@ -64,20 +63,19 @@ value_breach table coin line = broken_if (not (line.value == best table coin lin
 unfoldable pub mask_breach : PayTable → ℕ → ClassLine → Option Breach
 mask_breach table coin line = broken_if (nat_lt (value table coin line.hand line.mask) (best table coin line.hand)) Mask (value table coin line.hand line.mask) (best table coin line.hand)
 
--- the first broken rule of a class line behind one with this index; the last two are asked of walked lines alone
+-- the first broken rule of a class line's cards and weight, behind a class line with this index
+unfoldable pub listed_breach : Option ℕ → ClassLine → Option Breach
+listed_breach before line = first_of (image_breach line.hand ∷ rising_breach before line.hand ∷ weight_breach line ∷ [])
+
+-- the first broken rule of a class line's value and mask
+unfoldable pub walked_breach : PayTable → ℕ → ClassLine → Option Breach
+walked_breach table coin line = first_of (value_breach table coin line ∷ mask_breach table coin line ∷ [])
+
+-- the first broken rule of a class line; the value and the mask are asked of walked lines alone
 unfoldable pub class_breach : PayTable → ℕ → Bool → Option ℕ → ClassLine → Option Breach
-class_breach table coin walked before line = first_of (
-    image_breach line.hand ∷
-    rising_breach before line.hand ∷
-    weight_breach line ∷
-    (if walked then value_breach table coin line else None) ∷
-    (if walked then mask_breach table coin line else None) ∷ [])
+class_breach table coin walked before line = first_of (listed_breach before line ∷ (if walked then walked_breach table coin line else None) ∷ [])
 
 -- ---- the return
-
--- the number of deals, times the common denominator, times the bet
-unfoldable pub denominator_of : ℕ → ℕ → ℕ
-denominator_of n coin = choose n 5 * common n * coin
 
 -- the weights sum to the number of deals of a deck of n
 unfoldable pub cover_breach : ℕ → ℕ → Option Breach
@@ -89,7 +87,7 @@ sum_breach sum due = broken_if (not (sum == due)) Sum sum due
 
 -- the denominator is that of the deck and the bet
 unfoldable pub denominator_breach : ℕ → ℕ → ℕ → Option Breach
-denominator_breach n coin denominator = broken_if (not (denominator == denominator_of n coin)) Denominator denominator (denominator_of n coin)
+denominator_breach n coin denominator = broken_if (not (denominator == return_denominator n coin)) Denominator denominator (return_denominator n coin)
 
 -- the first broken rule of the return
 unfoldable pub return_breach : Certificate → Option Breach

@@ -1,14 +1,14 @@
 -- True certificates.
-use Rattle.std.specs.Prelude.{◌≡◌, ℕ, ◌+◌, ◌*◌, ◌<◌, ◌≤◌, true, List, length, map, sum_by, slice_index_or, None}
+use Rattle.std.specs.Prelude.{◌≡◌, ℕ, ◌*◌, true, List, length, map, sum_by, None}
 use Rattle.std.specs.List.{All}
 use Rattle.std.specs.List.Sorted.{IsStrictlyIncreasing}
 use Rattle.vp_pay.specs.declared.table.PayTable.{PayTable}
-use Rattle.vp_draws.specs.Draws.{best, least_best, sum_of_best, value}
+use Rattle.vp_draws.specs.Draws.{best, least_best, return_denominator, sum_of_best, value}
 use Rattle.vp_sets.specs.Index.{set_index}
 use Rattle.vp_sets.specs.Sets.{choose}
 use Rattle.vp_suit.specs.Classes.{is_representative, representatives, weight}
 use Rattle.vp_check.specs.Certificates.{Certificate}
-use Rattle.vp_check.specs.Rules.{first_break, denominator_of}
+use Rattle.vp_check.specs.Rules.{first_break, in_range, rows}
 use Rattle.vp_check.specs.declared.class_line.ClassLine.{ClassLine}
 
 -- no line breaks a rule, where `count` class lines from the place `from` on are walked
@@ -21,7 +21,7 @@ IsTrueCertificate c = IsTrueOver 1 (length c.classes) c
 
 -- the class lines at `count` places from the place `from` on, the first class line having the place 1
 abbrev pub AllWalked : ℕ → ℕ → (ClassLine → Type 0) → List ClassLine → Type 0
-AllWalked from count P lines = (i : ℕ) (d : ClassLine) → i < length lines → from ≤ i + 1 → i + 1 < from + count → P (slice_index_or lines i d)
+AllWalked from count P lines = All (λ row. in_range from count row.place ≡ true → P row.line) (rows lines)
 
 -- the cards of the class lines
 abbrev pub hands : Certificate → List (List ℕ)
@@ -37,7 +37,7 @@ pub record KeepsRules (from count : ℕ) (c : Certificate) : Type 0 where
   pub masks : AllWalked from count (λ line. value c.table c.coin line.hand line.mask ≡ best c.table c.coin line.hand) c.classes
   pub cover : sum_by (λ line. line.weight) c.classes ≡ choose c.table.deck 5
   pub sum : c.sum ≡ sum_by (λ line. line.weight * line.value) c.classes
-  pub denominator : c.denominator ≡ denominator_of c.table.deck c.coin
+  pub denominator : c.denominator ≡ return_denominator c.table.deck c.coin
 
 -- what a class line says of a class: its weight, its least best hold, and the value of that
 unfoldable pub due_line : PayTable → ℕ → List ℕ → ClassLine
@@ -50,5 +50,5 @@ due_certificate table coin = record {
   coin = coin;
   classes = map (due_line table coin) (representatives table.deck);
   sum = sum_of_best table coin;
-  denominator = denominator_of table.deck coin;
+  denominator = return_denominator table.deck coin;
 }

@@ -1,29 +1,28 @@
--- What a walk over the class lines finds.
-use Rattle.std.specs.Prelude.{◌≡◌, ℕ, ◌*◌, List, length, map, sum_by, None, IsSomeAnd}
-use Rattle.std.specs.List.{count_by}
-use Rattle.vp_text.specs.Lines.{Feed}
+-- What a walk over some of the class lines finds.
+use Rattle.std.specs.Prelude.{ℕ, ◌+◌, min, nat_le, nat_lt, List, [], ◌∷◌, Option, Some, None, Result, Ok, Err, if◌then◌else◌}
 use Rattle.vp_pay.specs.declared.table.PayTable.{PayTable}
-use Rattle.vp_check.specs.Certificates.{Certificate}
-use Rattle.vp_check.specs.Checking.{bad_at}
-use Rattle.vp_check.specs.Read.{AreAt}
-use Rattle.vp_check.specs.Rules.{class_break, in_range, rows}
-use Rattle.vp_check.specs.declared.class_line.ClassLine.{ClassLine}
-use Rattle.vp_check.specs.declared.numbered.Numbered.{Numbered}
+use Rattle.vp_check.specs.Rules.{walked_breach}
 use Rattle.vp_check.specs.declared.finding.Finding.{Finding}
-use Rattle.vp_check.specs.declared.passed.Passed.{Passed}
+use Rattle.vp_check.specs.declared.finding.Finding.TheVariants.{Bad}
+use Rattle.vp_check.specs.declared.listed.Broken.{Broken}
+use Rattle.vp_check.specs.declared.numbered.Numbered.{Numbered}
+use Rattle.vp_check.specs.declared.rules.Breach.{Breach}
 
--- the class lines without the numbers of their lines
-abbrev pub classes_of : List Numbered → List ClassLine
-classes_of numbered = map (λ row. row.class) numbered
+-- the place where a walk ends: behind its last line, and before a line with a broken rule
+abbrev pub walk_end : ℕ → Option Broken → ℕ
+walk_end last None = last
+walk_end last (Some broken) = min last broken.place
 
--- no rule of the class lines is broken: how many there are and how many of them are walked, and their sums
-pub record IsPassed (table : PayTable) (coin from count : ℕ) (lines : List ClassLine) (p : Passed) : Type 0 where
-  pub unbroken : class_break table coin from count lines ≡ None
-  pub many : p.lines ≡ length lines
-  pub walked : p.walked ≡ count_by (λ row. in_range from count row.place) (rows lines)
-  pub weights : p.weights ≡ sum_by (λ line. line.weight) lines
-  pub values : p.values ≡ sum_by (λ line. line.weight * line.value) lines
+-- a broken rule of this line, or else what comes later
+abbrev pub found_or : Option Breach → ℕ → Result ℕ Finding → Result ℕ Finding
+found_or None line later = later
+found_or (Some breach) line later = Err (Bad line breach.rule breach.said breach.due)
 
--- the finding is the first broken rule of the class lines, in whatever certificate and text they stand
-pub record IsFound (table : PayTable) (coin from count : ℕ) (numbered : List Numbered) (finding : Finding) : Type 0 where
-  pub breaks : (c : Certificate) (feed : Feed) → AreAt c feed 1 numbered → IsSomeAnd (class_break table coin from count (classes_of numbered)) (λ b. finding ≡ bad_at c feed b)
+-- the first broken rule of values and masks, asked of the rows at places from `from` to before `end`; how many were asked, where there is none
+abbrev pub walked_at : PayTable → ℕ → ℕ → ℕ → ℕ → List Numbered → ℕ → Result ℕ Finding
+walked_at table coin from end place [] walked = Ok walked
+walked_at table coin from end place (row ∷ rows) walked =
+    if nat_lt place end
+    then found_or (if nat_le from place then walked_breach table coin row.class else None) row.line
+    (walked_at table coin from end (place + 1) rows (walked + (if nat_le from place then 1 else 0)))
+    else Ok walked

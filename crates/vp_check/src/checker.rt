@@ -1,6 +1,6 @@
 //! The check of a certificate that uses none of what wrote it.
 
-ghost use Rattle.std.specs.Prelude.{◌≡◌, ◌≤◌, ◌<◌, ◌↔◌, ℕ, List, length, Ok, Err};
+ghost use Rattle.std.specs.Prelude.{◌≡◌, ◌≤◌, ◌<◌, ◌^◌, ◌↔◌, ℕ, List, length, Ok, Err};
 ghost use Rattle.vp_check.specs.Answers.{IsBad, IsChecked};
 ghost use Rattle.vp_check.specs.Certificates.{IsCertificate};
 ghost use Rattle.vp_check.specs.Checking.{check_result};
@@ -10,10 +10,9 @@ ghost use Rattle.vp_check.specs.declared.finding.CertRule.{CertRule};
 ghost use Rattle.vp_check.specs.declared.finding.Checked.{Checked};
 ghost use Rattle.vp_check.specs.declared.finding.Finding.TheVariants.{Bad, Refused};
 
-use crate::read_certificate::ReadCertificate;
-use crate::reading::read_certificate;
+use crate::reading::{ReadCertificate, read_certificate};
 use crate::rules::return_breach;
-use crate::walk::{bad, walk};
+use crate::walk::{bad, walk, walk_end};
 use crate::{Checked, Finding};
 use std::marker::Brand;
 use std::sync::ledger::{Blank, Ledger};
@@ -38,7 +37,7 @@ pub fn check(bytes: &[u8], from: u32, count: u32) -> Result<Checked, Finding>
 }
 
 /// The same; the blank is for a counter that nobody reads.
-#[tactic(auto, using(crate::proofs::Verdicts::refused_is))]
+#[tactic(auto, using(crate::proofs::Verdicts::refused_is, crate::proofs::Verdicts::many_rows))]
 fn check_from<L: Ledger>(
     bytes: &[u8],
     from: u32,
@@ -58,7 +57,7 @@ fn check_from<L: Ledger>(
 }
 
 /// The answer to a certificate in the grammar.
-#[tactic(auto, using(crate::proofs::Verdicts::found_is, crate::proofs::Verdicts::broken_is, crate::proofs::Verdicts::passed_is))]
+#[tactic(auto, using(crate::proofs::Verdicts::found_is, crate::proofs::Verdicts::passed_is))]
 fn answer<L: Ledger>(
     certificate: ReadCertificate<'_>,
     from: u32,
@@ -66,34 +65,27 @@ fn answer<L: Ledger>(
     steps: &mut Steps<L>,
 ) -> Result<Checked, Finding>
     requires certificate { IsCertificate (certificate_read certificate) }
-    requires count { length certificate.rows ≡ certificate.count }
+    requires many { length certificate.rows ≡ certificate.counted.listed.lines }
     ensures { (bytes : List ℕ) → IsRead bytes certificate.entry → result ≡ check_result bytes from count }
 {
     let ReadCertificate {
         table,
         coin,
         rows,
-        count: _,
-        return_line,
-        sum,
-        denominator,
+        counted,
     } = certificate;
-    let passed = walk(&table, coin, rows, from, count, steps)?;
-    let broken = return_breach(
-        table.deck,
-        coin,
-        passed.weights,
-        passed.values,
-        sum,
-        denominator,
-    );
-    if let Some(breach) = broken {
-        return Err(bad(return_line, breach));
+    let end = walk_end(from, count, counted.listed.broken);
+    let walked = walk(&table, coin, rows, u64::from(from), end, steps)?;
+    if let Some(broken) = counted.listed.broken {
+        return Err(bad(broken.line, broken.breach));
+    }
+    if let Some(breach) = return_breach(table.deck, coin, &counted) {
+        return Err(bad(counted.return_line, breach));
     }
     Ok(Checked {
-        classes: passed.lines,
-        walked: passed.walked,
-        sum,
-        denominator,
+        classes: counted.listed.lines,
+        walked,
+        sum: counted.sum,
+        denominator: counted.denominator,
     })
 }

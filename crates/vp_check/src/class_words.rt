@@ -39,9 +39,7 @@ pub(crate) fn class_of(words: &mut Words, deck: u8) -> Option<ClassLine>
     let weight = next_number_within(words, 1, 24)?;
     let mask = next_number_within(words, 0, 31)?;
     let value = next_number(words)?;
-    if words.next().is_some() {
-        return None;
-    }
+    words.end()?;
     let hand = rising_hand(cards, deck)?;
     Some(ClassLine {
         hand,

@@ -2,6 +2,7 @@
 
 ghost use Rattle.std.specs.Prelude.{◌≡◌, ℕ, ◌+◌, ◌<◌, ◌≤◌, ◌↔◌, length};
 ghost use Rattle.std.specs.List.{All};
+ghost use Rattle.vp_pay.specs.Bets.{IsBet};
 ghost use Rattle.vp_pay.specs.Table.{IsTable};
 ghost use Rattle.vp_pay.specs.declared.table.PayTable.{PayTable};
 ghost use Rattle.vp_draws.specs.Draws.{least_best};
@@ -39,8 +40,10 @@ pub fn walked_lines_tell_their_deals()
 
 /// For each pay table and each bet that it has there is one true certificate with the least best masks.
 pub fn due_certificate_is_true()
-    ensures grammar { (table : PayTable) (coin : ℕ) → IsTable table → 1 ≤ coin → coin ≤ table.coins → IsCertificate (due_certificate table coin) }
+    ensures grammar { (table : PayTable) (coin : ℕ) → IsBet table coin → IsCertificate (due_certificate table coin) }
     ensures kept { (table : PayTable) (coin : ℕ) → IsTable table → IsTrueCertificate (due_certificate table coin) }
+    // So it tells every deal.
+    ensures tells { (table : PayTable) (coin : ℕ) → IsBet table coin → TellsEveryDeal (due_certificate table coin) }
     // There is no other.
     ensures only { (table : PayTable) (coin : ℕ) (c : Certificate) → IsCertificate c → IsTrueCertificate c → c.table ≡ table → c.coin ≡ coin → All (λ line. line.mask ≡ least_best table coin line.hand) c.classes → c ≡ due_certificate table coin }
 {}

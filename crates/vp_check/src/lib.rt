@@ -5,15 +5,11 @@ mod checker;
 mod class_line;
 mod class_lines;
 mod class_words;
-mod counted;
 mod finding;
 mod laws;
+mod listed;
 mod numbered;
-mod passed;
-mod read_certificate;
 mod reading;
-#[cfg(test)]
-mod reading_tests;
 mod rules;
 mod spellings;
 #[cfg(test)]

@@ -1,45 +1,55 @@
 //! Certificates, read line by line.
 
-ghost use Rattle.std.specs.Prelude.{◌≡◌, ◌≤◌, ◌⊎◌, ◌&&◌, nat_lt, is_some, codes, length, Err, IfOk, IfErr};
-ghost use Rattle.vp_text.specs.Lines.{Feed};
-ghost use Rattle.vp_text.specs.Reading.{behind, Gives};
-ghost use Rattle.vp_text.specs.Numbers.{number_within};
-ghost use Rattle.vp_text.specs.Pieces.{keyed};
+ghost use Rattle.std.specs.Prelude.{◌≤◌, ◌≡◌, length, option_map, Err, IfOk, IfErr};
+ghost use Rattle.vp_card.specs.Cards.{IsDeck};
+ghost use Rattle.vp_text.specs.Reading.{Gives};
 ghost use Rattle.vp_check.specs.Checking.{certificate_of};
-ghost use Rattle.vp_check.specs.Counting.{counted, one_more, read_of, Says};
+ghost use Rattle.vp_check.specs.Listing.{counted, read_of, row_seen, Says};
 ghost use Rattle.vp_check.specs.Read.{IsRead};
-ghost use Rattle.vp_check.specs.Reading.{return_of, bet_line, end_of, end_line};
+ghost use Rattle.vp_check.specs.Reading.{return_of, row_of, bet_line, end_of, end_line};
 
+use crate::ClassLine;
 use crate::class_lines::ClassLines;
 use crate::class_words::class_of;
-use crate::counted::Counted;
-use crate::read_certificate::ReadCertificate;
+use crate::listed::Listed;
 use vp_pay::PayTable;
 use vp_suit::class_count;
-use vp_text::{Lines, Refused, Words, key_word, next_number, next_number_within};
+use vp_text::{Lines, Refused, Words, key_word, keyed_number, next_number};
 
-fn bet(words: &mut Words, coins: u8) -> Option<u8>
-    ensures { result ≡ keyed (codes "cert") (number_within 1 coins) words.old.words }
-{
-    key_word(words, b"cert")?;
-    let value = next_number_within(words, 1, coins as u64)?;
-    if words.next().is_some() {
-        return None;
-    }
-    Some(value as u8)
+/// A line behind the bet: a class line, or the return as a sum over a denominator.
+#[derive(Clone, Copy, Debug, PartialEq, Eq)]
+enum Row {
+    Class(ClassLine),
+    Return(u64, u64),
+}
+
+/// What the class lines come to, and the return behind them.
+#[derive(Clone, Copy, Debug, PartialEq, Eq)]
+pub(crate) struct Counted {
+    pub listed: Listed,
+    /// The number of the return's line in the text.
+    pub return_line: u32,
+    pub sum: u64,
+    pub denominator: u64,
+}
+
+/// A certificate in the grammar, over its text: the class lines can be read again from the text.
+#[derive(Drop)]
+pub(crate) struct ReadCertificate<'a> {
+    pub table: PayTable,
+    /// The bet.
+    pub coin: u8,
+    pub rows: ClassLines<'a>,
+    pub counted: Counted,
 }
 
 fn bet_line(lines: &mut Lines, coins: u8) -> Result<u8, Refused>
     ensures { Gives (λ v. v) result lines.new (bet_line coins lines.old) }
 {
-    let Some(mut words) = lines.next() else {
-        return Err(Refused { line: lines.past() });
-    };
+    let mut words = lines.next_wanted()?;
     let line = words.line();
-    match bet(&mut words, coins) {
-        Some(value) => Ok(value),
-        None => Err(Refused { line }),
-    }
+    let coin = keyed_number(&mut words, b"cert", 1, u64::from(coins)).ok_or(Refused { line })?;
+    Ok(coin as u8)
 }
 
 #[tactic(auto, unfolding(crate::specs::Reading::return_of))]
@@ -50,44 +60,47 @@ fn return_of(words: &mut Words) -> Option<(u64, u64)>
     let sum = next_number(words)?;
     key_word(words, b"/")?;
     let denominator = next_number(words)?;
-    if words.next().is_some() {
-        return None;
-    }
+    words.end()?;
     Some((sum, denominator))
 }
 
-/// Whether the words are a class line that may follow so many.
-fn one_more(words: &mut Words, deck: u8, count: u32, most: u32) -> bool
-    ensures { result ≡ one_more most deck count words.old.words }
+#[tactic(auto, unfolding(crate::specs::Reading::row_of))]
+fn row_of(words: &mut Words, deck: u8) -> Option<Row>
+    ensures { option_map row_seen result ≡ row_of deck words.old.words }
 {
-    class_of(words, deck).is_some() && count < most
+    if words.next_is(b"return") {
+        let (sum, denominator) = return_of(words)?;
+        Some(Row::Return(sum, denominator))
+    } else {
+        let class = class_of(words, deck)?;
+        Some(Row::Class(class))
+    }
 }
 
-/// The class lines up to the return, counted.
-#[tactic(auto, unfolding(crate::specs::Counting::counted))]
+/// The class lines up to the return, and what they come to.
+#[tactic(auto, unfolding(crate::specs::Listing::counted))]
 fn class_lines(lines: &mut Lines, deck: u8) -> Result<Counted, Refused>
-    requires { (deck ≡ 52) ⊎ (deck ≡ 53) }
+    requires { IsDeck deck }
     ensures { Gives (λ c. c) result lines.new (counted deck lines.old) }
 {
     let most = class_count(deck);
-    let mut count = 0;
+    let mut listed = Listed::none();
     while let Some(mut words) = lines.next() {
         let line = words.line();
-        if words.next_is(b"return") {
-            let Some((sum, denominator)) = return_of(&mut words) else {
-                return Err(Refused { line });
-            };
-            return Ok(Counted {
-                count,
-                return_line: line,
-                sum,
-                denominator,
-            });
+        match row_of(&mut words, deck) {
+            Some(Row::Return(sum, denominator)) => {
+                return Ok(Counted {
+                    listed,
+                    return_line: line,
+                    sum,
+                    denominator,
+                });
+            }
+            Some(Row::Class(class)) if listed.lines < most => {
+                listed = listed.and(line, &class);
+            }
+            _ => return Err(Refused { line }),
         }
-        if !one_more(&mut words, deck, count, most) {
-            return Err(Refused { line });
-        }
-        count += 1;
     }
     Err(Refused { line: lines.past() })
 }
@@ -96,26 +109,18 @@ fn end_of(words: &mut Words) -> Option<()>
     ensures { result ≡ end_of words.old.words }
 {
     key_word(words, b"end")?;
-    if words.next().is_some() {
-        return None;
-    }
-    Some(())
+    words.end()
 }
 
 fn end_line(lines: &mut Lines) -> Result<(), Refused>
     ensures { Gives (λ v. v) result lines.new (end_line lines.old) }
 {
-    let Some(mut words) = lines.next() else {
-        return Err(Refused { line: lines.past() });
-    };
+    let mut words = lines.next_wanted()?;
     let line = words.line();
-    match end_of(&mut words) {
-        Some(()) => Ok(()),
-        None => Err(Refused { line }),
-    }
+    end_of(&mut words).ok_or(Refused { line })
 }
 
-#[tactic(auto, unfolding(crate::specs::Counting::read_of))]
+#[tactic(auto, unfolding(crate::specs::Listing::read_of))]
 fn certificate(bytes: &[u8]) -> Result<ReadCertificate<'_>, Refused>
     requires { length bytes.now ≤ 67108864 }
     ensures { Says result (read_of bytes.now) }
@@ -133,14 +138,11 @@ fn certificate(bytes: &[u8]) -> Result<ReadCertificate<'_>, Refused>
         table,
         coin,
         rows,
-        count: counted.count,
-        return_line: counted.return_line,
-        sum: counted.sum,
-        denominator: counted.denominator,
+        counted,
     })
 }
 
-/// Reads a certificate. No class line is kept: they are read again from the text.
+/// Reads a certificate. No class line is kept: they can be read again from the text.
 #[tactic(auto, using(crate::proofs::Read_grammar::found_certificate, crate::proofs::Read_grammar::refused_certificate))]
 pub(crate) fn read_certificate(bytes: &[u8]) -> Result<ReadCertificate<'_>, Refused>
     requires { length bytes.now ≤ 67108864 }

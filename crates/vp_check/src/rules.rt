@@ -1,19 +1,21 @@
 //! The rules of a certificate's lines, and what is due where one is broken.
 
-ghost use Rattle.std.specs.Prelude.{◌≡◌, ◌≤◌, ◌<◌, [], ◌∷◌, true};
-ghost use Rattle.vp_card.specs.Cards.{in_deck};
-ghost use Rattle.vp_pay.specs.Table.{IsTable};
+ghost use Rattle.std.specs.Prelude.{◌≡◌, ◌≤◌, ◌<◌, ℕ, List, [], ◌∷◌, true};
+ghost use Rattle.vp_card.specs.Cards.{IsDeck, in_deck};
+ghost use Rattle.vp_pay.specs.Bets.{IsBet};
 ghost use Rattle.vp_draws.specs.Draws.{best, value};
 ghost use Rattle.vp_sets.specs.Index.{set_index};
-ghost use Rattle.vp_check.specs.Rules.{broken_if, first_of, image_breach, rising_breach, weight_breach, value_breach, mask_breach, class_breach, cover_breach, sum_breach, denominator_of, denominator_breach};
+ghost use Rattle.vp_check.specs.Listing.{counted_breach};
+ghost use Rattle.vp_check.specs.Rules.{broken_if, first_of, image_breach, rising_breach, weight_breach, value_breach, mask_breach, listed_breach, walked_breach, cover_breach, sum_breach, denominator_breach};
 
+use crate::reading::Counted;
 use crate::{CertRule, ClassLine};
 use std::sync::ledger::Ledger;
 use vp_card::Hand;
-use vp_draws::{Best, plain_best, value_of};
+use vp_draws::{plain_best, return_denominator, value_of};
 use vp_pay::PayTable;
-use vp_sets::{choose, common, index_of};
-use vp_suit::{least_image, weight};
+use vp_sets::{choose, index_of};
+use vp_suit::{is_representative, least_image, weight};
 use vp_wild::Steps;
 
 /// A broken rule: the number that stands there, and the number due.
@@ -41,30 +43,30 @@ pub(crate) fn index_of_hand(hand: &Hand) -> u32
     index_of(&hand.numbers())
 }
 
-/// The cards are their least image.
-#[tactic(auto, using(crate::proofs::Breaches::image_is))]
-fn image_breach(hand: &Hand) -> Option<Breach>
+/// The cards, of this index, are their least image.
+#[tactic(auto, unfolding(crate::specs::Rules::image_breach))]
+fn image_breach(index: u32, hand: &Hand) -> Option<Breach>
+    requires { index ≡ set_index hand.now }
     ensures { result ≡ image_breach hand.now }
 {
-    let index = index_of_hand(hand);
-    let (image, _) = least_image(hand);
-    let least = index_of_hand(&image);
-    broken_if(
-        index != least,
-        CertRule::Order,
-        u128::from(index),
-        u128::from(least),
-    )
+    if is_representative(hand) {
+        return None;
+    }
+    let (least, _) = least_image(hand);
+    Some(Breach {
+        rule: CertRule::Order,
+        said: u128::from(index),
+        due: u128::from(index_of_hand(&least)),
+    })
 }
 
 /// The index is above that of the class line before.
-fn rising_breach(before: Option<u32>, hand: &Hand) -> Option<Breach>
-    ensures { result ≡ rising_breach before hand.now }
+fn rising_breach(before: Option<u32>, index: u32) -> Option<Breach>
+    ensures { (hand : List ℕ) → index ≡ set_index hand → result ≡ rising_breach before hand }
 {
     let Some(before) = before else {
         return None;
     };
-    let index = index_of_hand(hand);
     broken_if(
         index <= before,
         CertRule::Order,
@@ -87,19 +89,33 @@ fn weight_breach(line: &ClassLine) -> Option<Breach>
     )
 }
 
-/// The value is the greatest of the 32 holds, and the mask has it.
-#[tactic(auto, unfolding(crate::specs::Rules::value_breach, crate::specs::Rules::mask_breach))]
-fn walked_breach<L: Ledger>(
+/// The first broken rule of a class line's cards and weight: its cards have this index, and stand behind a class line with
+/// the index `before`.
+#[tactic(auto, unfolding(crate::specs::Rules::listed_breach))]
+pub(crate) fn listed_breach(before: Option<u32>, index: u32, line: &ClassLine) -> Option<Breach>
+    requires { index ≡ set_index line.now.hand }
+    ensures { result ≡ listed_breach before line.now }
+{
+    if let Some(breach) = image_breach(index, &line.hand) {
+        return Some(breach);
+    }
+    if let Some(breach) = rising_breach(before, index) {
+        return Some(breach);
+    }
+    weight_breach(line)
+}
+
+/// The first broken rule of a class line's value and mask: the value is the greatest of the 32 holds, and the mask has it.
+#[tactic(auto, unfolding(crate::specs::Rules::walked_breach, crate::specs::Rules::value_breach, crate::specs::Rules::mask_breach))]
+pub(crate) fn walked_breach<L: Ledger>(
     table: &PayTable,
     coin: u8,
     line: &ClassLine,
     steps: &mut Steps<L>,
 ) -> Option<Breach>
-    requires table { IsTable table.now }
-    requires coin_from { 1 ≤ coin }
-    requires coin_to { coin ≤ table.now.coins }
+    requires bet { IsBet table.now coin }
     requires cards { in_deck table.now.deck line.now.hand ≡ true }
-    ensures { result ≡ first_of (value_breach table.now coin line.now ∷ mask_breach table.now coin line.now ∷ []) }
+    ensures { result ≡ walked_breach table.now coin line.now }
 {
     let best = plain_best(table, coin, &line.hand, steps);
     let due = u128::from(best.value);
@@ -112,44 +128,6 @@ fn walked_breach<L: Ledger>(
         value_of(table, coin, &line.hand, line.mask, steps)
     };
     broken_if(worth < best.value, CertRule::Mask, u128::from(worth), due)
-}
-
-/// The first broken rule of a class line's cards and weight, behind a class line with the index `before`.
-fn listed_breach(before: Option<u32>, line: &ClassLine) -> Option<Breach>
-    ensures { result ≡ first_of (image_breach line.now.hand ∷ rising_breach before line.now.hand ∷ weight_breach line.now ∷ []) }
-{
-    if let Some(breach) = image_breach(&line.hand) {
-        return Some(breach);
-    }
-    if let Some(breach) = rising_breach(before, &line.hand) {
-        return Some(breach);
-    }
-    weight_breach(line)
-}
-
-/// The first broken rule of a class line, behind a class line with the index `before`.
-#[tactic(auto, unfolding(crate::specs::Rules::class_breach))]
-pub(crate) fn class_breach<L: Ledger>(
-    table: &PayTable,
-    coin: u8,
-    walked: bool,
-    before: Option<u32>,
-    line: &ClassLine,
-    steps: &mut Steps<L>,
-) -> Option<Breach>
-    requires table { IsTable table.now }
-    requires coin_from { 1 ≤ coin }
-    requires coin_to { coin ≤ table.now.coins }
-    requires cards { in_deck table.now.deck line.now.hand ≡ true }
-    ensures { result ≡ class_breach table.now coin walked before line.now }
-{
-    if let Some(breach) = listed_breach(before, line) {
-        return Some(breach);
-    }
-    if !walked {
-        return None;
-    }
-    walked_breach(table, coin, line, steps)
 }
 
 /// The weights sum to the number of deals of a deck of `n`.
@@ -179,43 +157,28 @@ fn sum_breach(sum: u64, due: u128) -> Option<Breach>
 /// The denominator is that of the deck and the bet.
 #[tactic(auto, unfolding(crate::specs::Rules::denominator_breach))]
 fn denominator_breach(n: u8, coin: u8, denominator: u64) -> Option<Breach>
-    requires deck_from { 52 ≤ n }
-    requires deck_to { n ≤ 53 }
+    requires deck { IsDeck n }
     ensures { result ≡ denominator_breach n coin denominator }
 {
-    let said = u128::from(denominator);
-    let due = denominator_of(n, coin);
-    broken_if(said != due, CertRule::Denominator, said, due)
+    let due = return_denominator(n, coin);
+    broken_if(
+        denominator != due,
+        CertRule::Denominator,
+        u128::from(denominator),
+        u128::from(due),
+    )
 }
 
-/// The number of deals, times the common denominator, times the bet.
-#[tactic(auto, using(crate::proofs::Breaches::denominator_fits), unfolding(crate::specs::Rules::denominator_of))]
-fn denominator_of(n: u8, coin: u8) -> u128
-    requires deck_from { 52 ≤ n }
-    requires deck_to { n ≤ 53 }
-    ensures { result ≡ denominator_of n coin }
+/// The first broken rule of the return, from what the class lines come to.
+pub(crate) fn return_breach(n: u8, coin: u8, counted: &Counted) -> Option<Breach>
+    requires deck { IsDeck n }
+    ensures { result ≡ counted_breach n coin counted.now }
 {
-    u128::from(choose(n, 5)) * u128::from(common(n)) * u128::from(coin)
-}
-
-/// The first broken rule of the return, behind class lines with these sums of weights and of weight times value.
-pub(crate) fn return_breach(
-    n: u8,
-    coin: u8,
-    weights: u64,
-    values: u128,
-    sum: u64,
-    denominator: u64,
-) -> Option<Breach>
-    requires deck_from { 52 ≤ n }
-    requires deck_to { n ≤ 53 }
-    ensures { result ≡ first_of (cover_breach n weights ∷ sum_breach sum values ∷ denominator_breach n coin denominator ∷ []) }
-{
-    if let Some(breach) = cover_breach(n, weights) {
+    if let Some(breach) = cover_breach(n, counted.listed.weights) {
         return Some(breach);
     }
-    if let Some(breach) = sum_breach(sum, values) {
+    if let Some(breach) = sum_breach(counted.sum, counted.listed.values) {
         return Some(breach);
     }
-    denominator_breach(n, coin, denominator)
+    denominator_breach(n, coin, counted.denominator)
 }

@@ -1,6 +1,6 @@
 //! Laws of the spelling of certificates, each the contract of a function that does nothing.
 
-ghost use Rattle.std.specs.Prelude.{◌≡◌, ◌↔◌, ◌+◌, ℕ, List, ◌∷◌, ◌++◌, length, Ok, Err};
+ghost use Rattle.std.specs.Prelude.{◌≡◌, ◌≤◌, ◌↔◌, ◌+◌, ℕ, List, ◌∷◌, ◌++◌, length, Ok, Err};
 ghost use Rattle.vp_text.specs.Lines.{Feed, feed_of};
 ghost use Rattle.vp_text.specs.Sections.{Text, text_of};
 ghost use Rattle.vp_text.specs.Written.{written};
@@ -34,11 +34,13 @@ pub fn lines_have_numbers()
 {}
 
 /// A certificate that was written is read again.
-#[tactic(auto, using(crate::proofs::PlainCertificates::written_certificate, crate::proofs::PlainCertificates::written_whole))]
+#[tactic(auto, using(crate::proofs::PlainCertificates::written_certificate, crate::proofs::PlainCertificates::written_whole, crate::proofs::ShortTexts::short_certificate))]
 pub fn written_certificates_are_read()
     // The lines behind it are left.
     ensures again { (c : Certificate) (more : List ℕ) → IsCertificate c
         → (left : Feed) × (certificate_at (feed_of (written (certificate_text c) ++ more)) ≡ Ok (c, left)) × (text_of left.lines ≡ text_of (feed_of more).lines) }
     // Where nothing is behind it, it is what the text says.
     ensures whole { (c : Certificate) → IsCertificate c → certificate_of (written (certificate_text c)) ≡ Ok c }
+    // It is no longer than a text that the check takes.
+    ensures short { (c : Certificate) → IsCertificate c → length (written (certificate_text c)) ≤ 67108864 }
 {}

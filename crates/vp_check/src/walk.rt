@@ -1,27 +1,22 @@
-//! The walk over the class lines of a certificate.
+//! The walk over the class lines whose draws are asked for.
 
-ghost use Rattle.std.specs.Prelude.{◌≡◌, ◌≤◌, ◌<◌, ◌^◌, length, IfOk, IfErr};
+ghost use Rattle.std.specs.Prelude.{◌≡◌, ◌+◌, ◌≤◌, ◌<◌, ◌^◌, None, true, length, if◌then◌else◌};
 ghost use Rattle.std.specs.List.{All};
-ghost use Rattle.vp_pay.specs.Table.{IsTable};
+ghost use Rattle.vp_card.specs.Cards.{in_deck};
+ghost use Rattle.vp_pay.specs.Bets.{IsBet};
 ghost use Rattle.vp_check.specs.Certificates.{IsClassLine};
-ghost use Rattle.vp_check.specs.Rules.{in_range};
-ghost use Rattle.vp_check.specs.Walks.{classes_of, IsFound, IsPassed};
+ghost use Rattle.vp_check.specs.Rows.{classes_of};
+ghost use Rattle.vp_check.specs.Rules.{walked_breach};
+ghost use Rattle.vp_check.specs.Walks.{walk_end, walked_at};
 ghost use Rattle.vp_check.specs.declared.finding.Finding.TheVariants.{Bad};
 
-use crate::Finding;
 use crate::class_lines::ClassLines;
-use crate::passed::Passed;
-use crate::rules::{Breach, class_breach};
+use crate::listed::Broken;
+use crate::rules::{Breach, walked_breach};
+use crate::{ClassLine, Finding};
 use std::sync::ledger::Ledger;
 use vp_pay::PayTable;
 use vp_wild::Steps;
-
-/// Whether the place is one of `count` places from `from` on.
-fn in_range(from: u32, count: u32, place: u32) -> bool
-    ensures { result ≡ in_range from count place }
-{
-    from <= place && u64::from(place) < u64::from(from) + u64::from(count)
-}
 
 /// The finding of a rule that a line breaks.
 pub(crate) fn bad(line: u32, breach: Breach) -> Finding
@@ -35,31 +30,64 @@ pub(crate) fn bad(line: u32, breach: Breach) -> Finding
     }
 }
 
-/// What the class lines come to, or the first that breaks a rule.
+/// The place where a walk of `count` class lines from the place `from` on ends: no line is walked behind one with a
+/// broken rule.
+pub(crate) fn walk_end(from: u32, count: u32, broken: Option<Broken>) -> u64
+    ensures { result ≡ walk_end (from + count) broken }
+{
+    let end = u64::from(from) + u64::from(count);
+    match broken {
+        Some(broken) => end.min(u64::from(broken.place)),
+        None => end,
+    }
+}
+
+/// The first broken rule of the value and the mask, where the line is walked.
+fn breach_if<L: Ledger>(
+    walked: bool,
+    table: &PayTable,
+    coin: u8,
+    line: &ClassLine,
+    steps: &mut Steps<L>,
+) -> Option<Breach>
+    requires bet { IsBet table.now coin }
+    requires cards { in_deck table.now.deck line.now.hand ≡ true }
+    ensures { result ≡ (if walked then walked_breach table.now coin line.now else None) }
+{
+    if walked {
+        walked_breach(table, coin, line, steps)
+    } else {
+        None
+    }
+}
+
+/// The first broken rule of the values and masks of the class lines at the places from `from` to before `end`; where
+/// there is none, how many class lines were asked.
 pub(crate) fn walk<L: Ledger>(
     table: &PayTable,
     coin: u8,
     mut rows: ClassLines<'_>,
-    from: u32,
-    count: u32,
+    from: u64,
+    end: u64,
     steps: &mut Steps<L>,
-) -> Result<Passed, Finding>
-    requires table { IsTable table.now }
-    requires coin_from { 1 ≤ coin }
-    requires coin_to { coin ≤ table.now.coins }
+) -> Result<u32, Finding>
+    requires bet { IsBet table.now coin }
     requires lines { All (IsClassLine table.now.deck) (classes_of rows) }
     requires few { length rows < 2 ^ 32 }
-    ensures passed { IfOk result (IsPassed table.now coin from count (classes_of rows.entry)) }
-    ensures found { IfErr result (IsFound table.now coin from count rows.entry) }
+    ensures { result ≡ walked_at table.now coin from end 1 rows.entry 0 }
 {
-    let mut passed = Passed::none();
+    let mut place = 1u64;
+    let mut walked = 0u32;
     while let Some(row) = rows.next() {
-        let walked = in_range(from, count, passed.lines + 1);
-        let breach = class_breach(table, coin, walked, passed.last, &row.class, steps);
-        if let Some(breach) = breach {
+        if place >= end {
+            return Ok(walked);
+        }
+        let asked = from <= place;
+        if let Some(breach) = breach_if(asked, table, coin, &row.class, steps) {
             return Err(bad(row.line, breach));
         }
-        passed = passed.and(&row.class, walked);
+        walked += u32::from(asked);
+        place += 1;
     }
-    Ok(passed)
+    Ok(walked)
 }

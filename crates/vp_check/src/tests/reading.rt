@@ -6,6 +6,8 @@ use std::test::*;
 
 const TABLE: &[u8] = b"table t\ndeck 52\nwild none\ncoins 2\nline royal royal either 1 2\nend\n";
 
+const JOKERS: &[u8] = b"table t\ndeck 54\nwild none\ncoins 2\nline both wilds 2 either 1 2\nend\n";
+
 const CLASS: &[u8] = b"class 2c 3c 4c 5c 7c 24 31 18446744073709551615\n";
 
 const TWO: &[u8] =
@@ -24,10 +26,15 @@ fn class_lines_are_given_with_their_numbers(rt: HostRuntime) -> Result<(), Fail>
     assert!(rt; text.len() < 1000);
     let mut read = read_certificate(&text).ok().ok_or("a certificate")?;
     assert_eq!(rt; read.coin, 2);
-    assert_eq!(rt; read.count, 2);
-    assert_eq!(rt; read.return_line, 12);
-    assert_eq!(rt; read.sum, 5);
-    assert_eq!(rt; read.denominator, 6);
+    assert_eq!(rt; read.counted.listed.lines, 2);
+    assert_eq!(rt; read.counted.listed.weights, 5);
+    assert_eq!(rt; read.counted.listed.values, 4 * 7 + 9);
+    assert_eq!(rt; read.counted.return_line, 12);
+    assert_eq!(rt; read.counted.sum, 5);
+    assert_eq!(rt; read.counted.denominator, 6);
+    // The deuces of all suits in front of an ace of spades are no least image: the index of 2c 2d 2h 2s Ac is lower.
+    let broken = read.counted.listed.broken.ok_or("a broken rule")?;
+    assert_eq!(rt; (broken.place, broken.line), (2, 11));
     let first = read.rows.next().ok_or("a class line")?;
     assert_eq!(rt; first.line, 9);
     assert_eq!(rt; first.class.weight, 4);
@@ -55,36 +62,38 @@ fn refused_line(alloc: Global, front: &[u8], back: &[u8]) -> Result<u32, AllocEr
 
 #[test]
 fn lines_out_of_form_are_refused(rt: HostRuntime) -> Result<(), Fail> {
-    let cases: [(&[u8], u32); 12] = [
+    let end = b"return 0 / 1\nend\n".as_slice();
+    // What stands behind the bet in front of the return, for each deck, and the refused line.
+    let rows: [(&[u8], &[u8], u32); 9] = [
+        (TABLE, b"", 0),
+        (TABLE, b"class 2c 3c 4c 5c 7c 4 31 7\n", 0),
+        (TABLE, b"class 2c 3c 4c 7c 5c 4 31 7\n", 8),
+        (TABLE, b"class 2c 3c 4c 5c Jo 4 31 7\n", 8),
+        (TABLE, b"class 2c 3c 4c 5c 7c 25 31 7\n", 8),
+        (TABLE, b"class 2c 3c 4c 5c 7c 4 32 7\n", 8),
+        (TABLE, b"class 2c 3c 4c 5c 7c 4 31 07\n", 8),
+        (JOKERS, b"class 2c 3c 4c Jo Jk 4 31 7\n", 0),
+        (JOKERS, b"class 2c 3c 4c Jk Jo 4 31 7\n", 8),
+    ];
+    for (table, row, line) in rows {
+        let front = joined(rt.alloc(), table, b"cert 1\n")?;
+        let back = joined(rt.alloc(), row, end)?;
+        assert_eq!(rt; refused_line(rt.alloc(), &front, &back)?, line);
+    }
+    let texts: [(&[u8], u32); 8] = [
         (b"", 7),
         (b"cert 0\nreturn 0 / 1\nend\n", 7),
         (b"cert 3\nreturn 0 / 1\nend\n", 7),
-        (b"cert 1\nreturn 0 / 1\nend\n", 0),
         (b"cert 1\nreturn 0 / 1\nend\nend\n", 10),
         (b"cert 1\nreturn 0/1\nend\n", 8),
+        (b"cert 1\nreturn 0 / 1\n", 9),
         (b"cert 1\nclass 2c 3c 4c 5c 7c 4 31 7\n", 9),
-        (
-            b"cert 1\nclass 2c 3c 4c 7c 5c 4 31 7\nreturn 0 / 1\nend\n",
-            8,
-        ),
-        (
-            b"cert 1\nclass 2c 3c 4c 5c Jo 4 31 7\nreturn 0 / 1\nend\n",
-            8,
-        ),
-        (
-            b"cert 1\nclass 2c 3c 4c 5c 7c 25 31 7\nreturn 0 / 1\nend\n",
-            8,
-        ),
-        (
-            b"cert 1\nclass 2c 3c 4c 5c 7c 4 32 7\nreturn 0 / 1\nend\n",
-            8,
-        ),
         (
             b"cert 1\nreturn 0 / 1\nclass 2c 3c 4c 5c 7c 4 31 7\nend\n",
             9,
         ),
     ];
-    for (back, line) in cases {
+    for (back, line) in texts {
         assert_eq!(rt; refused_line(rt.alloc(), TABLE, back)?, line);
     }
     Ok(())
@@ -107,8 +116,8 @@ fn as_many_class_lines_as_classes(rt: HostRuntime) -> Result<(), Fail> {
     let text = class_lines(rt.alloc(), 134_459)?;
     assert!(rt; text.len() < 10_000_000);
     let read = read_certificate(&text).ok().ok_or("a certificate")?;
-    assert_eq!(rt; read.count, 134_459);
-    assert_eq!(rt; read.return_line, 134_467);
+    assert_eq!(rt; read.counted.listed.lines, 134_459);
+    assert_eq!(rt; read.counted.return_line, 134_467);
     let more = class_lines(rt.alloc(), 134_460)?;
     assert!(rt; more.len() < 10_000_000);
     match read_certificate(&more) {
