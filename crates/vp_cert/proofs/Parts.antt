@@ -6,8 +6,7 @@ use Rattle.vp_text.specs.Written.{line_of, written}
 use Rattle.vp_pay.specs.Spelling.{table_text}
 use Rattle.vp_pay.specs.declared.table.PayTable.{PayTable}
 use Rattle.vp_suit.specs.Classes.{representatives}
-use Rattle.vp_draws.specs.Draws.{sum_of_best}
-use Rattle.vp_check.specs.Rules.{denominator_of}
+use Rattle.vp_draws.specs.Draws.{return_denominator, sum_of_best}
 use Rattle.vp_check.specs.Spelling.{class_words, return_words, cert_text, certificate_text}
 use Rattle.vp_check.specs.Truth.{due_certificate, due_line}
 use Rattle.vp_cert.proofs.SoFar.{lines}
@@ -18,17 +17,16 @@ bet_line coin = line_of (codes "cert" ∷ decimal coin ∷ [])
 
 -- the line of the return, and the last line
 abbrev pub last_lines : ℕ → ℕ → List ℕ
-last_lines sum denominator = line_of (return_words sum denominator) ++ line_of (codes "end" ∷ [])
+last_lines sum denominator = written (return_words sum denominator ∷ (codes "end" ∷ []) ∷ [])
 
 -- the bet, the class lines and the return
 pub behind_table : (table : PayTable) (coin : ℕ) → written (cert_text (due_certificate table coin))
-    ≡ bet_line coin ++ (lines table coin (representatives table.deck) ++ last_lines (sum_of_best table coin) (denominator_of table.deck coin))
+    ≡ bet_line coin ++ (lines table coin (representatives table.deck) ++ last_lines (sum_of_best table coin) (return_denominator table.deck coin))
 unfolding cert_text due_certificate
 behind_table table coin =
     let classes = map class_words (map (due_line table coin) (representatives table.deck)) in
-    let last = return_words (sum_of_best table coin) (denominator_of table.deck coin) ∷ (codes "end" ∷ []) ∷ [] in
     ap (λ (text : List ℕ). bet_line coin ++ text)
-    (flat_map-append line_of classes last ∙ ap (λ (text : List ℕ). written classes ++ (line_of (return_words (sum_of_best table coin) (denominator_of table.deck coin)) ++ text)) (append-nil (line_of (codes "end" ∷ []))))
+    (flat_map-append line_of classes (return_words (sum_of_best table coin) (return_denominator table.deck coin) ∷ (codes "end" ∷ []) ∷ []))
 
 -- the pay table, and what stands behind it
 pub whole_text : (table : PayTable) (coin : ℕ) → written (certificate_text (due_certificate table coin)) ≡ written (table_text table) ++ written (cert_text (due_certificate table coin))
@@ -36,6 +34,6 @@ unfolding certificate_text due_certificate
 whole_text table coin = flat_map-append line_of (table_text table) (cert_text (due_certificate table coin))
 
 -- the same last lines, with the numbers that were reckoned
-pub last_as : (table told : PayTable) (coin bet sum denominator : ℕ) → told ≡ table → bet ≡ coin → sum ≡ sum_of_best table coin → denominator ≡ denominator_of told.deck bet
-    → last_lines sum denominator ≡ last_lines (sum_of_best table coin) (denominator_of table.deck coin)
+pub last_as : (table told : PayTable) (coin bet sum denominator : ℕ) → told ≡ table → bet ≡ coin → sum ≡ sum_of_best table coin → denominator ≡ return_denominator told.deck bet
+    → last_lines sum denominator ≡ last_lines (sum_of_best table coin) (return_denominator table.deck coin)
 last_as table told coin bet sum denominator is_table is_coin is_sum is = rw (is_sum, is, is_table, is_coin) refl

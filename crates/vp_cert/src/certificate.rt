@@ -4,7 +4,6 @@ ghost use Rattle.std.specs.Prelude.{◌≡◌, ◌+◌, ◌≤◌, length, IfOk}
 ghost use Rattle.vp_text.specs.Written.{written};
 ghost use Rattle.vp_suit.specs.Classes.{representatives};
 ghost use Rattle.vp_draws.specs.Draws.{sum_of_best};
-ghost use Rattle.vp_check.specs.Rules.{denominator_of};
 ghost use Rattle.vp_check.specs.Spelling.{cert_text, certificate_text};
 ghost use Rattle.vp_check.specs.Truth.{due_certificate};
 ghost use Rattle.vp_io.specs.Puts.{Puts};
@@ -12,9 +11,8 @@ ghost use Rattle.vp_io.specs.Puts.{Puts};
 use crate::Holds;
 use crate::classes::put_classes;
 use crate::lines::{put_bet, put_return};
+use vp_draws::return_denominator;
 use vp_io::{Sink, WriteFault};
-use vp_sets::{choose, common};
-use vp_text::Out;
 
 /// Writes the certificate of the pay table and the bet: the table, the bet, a line for each class of deals with its least
 /// best hold, and the return. Answers the sum of the best values over all deals, of which the return is a fraction.
@@ -22,7 +20,7 @@ use vp_text::Out;
 /// The lines are put as they come, so where a write fails a proper beginning of the text was put.
 pub fn certify<H: Holds, K: Sink>(holds: &mut H, sink: &mut K) -> Result<u128, WriteFault>
     // All lines of the certificate are put; or a proper beginning of them, and a fault is counted.
-    ensures puts { Puts (K.taken sink.old) (K.taken sink.new) (K.faults sink.old) (K.faults sink.new) result
+    ensures puts { Puts (K.told sink.old) (K.told sink.new) result
         (written (certificate_text (due_certificate (H.pays holds.old) (H.bet holds.old)))) }
     ensures sum { IfOk result (λ sum. sum ≡ sum_of_best (H.pays holds.old) (H.bet holds.old)) }
     // No more best holds are asked for than there are classes of deals.
@@ -36,28 +34,17 @@ pub fn certify<H: Holds, K: Sink>(holds: &mut H, sink: &mut K) -> Result<u128, W
 
 /// Puts what stands behind the pay table.
 fn put_behind_table<H: Holds, K: Sink>(holds: &mut H, sink: &mut K) -> Result<u128, WriteFault>
-    ensures puts { Puts (K.taken sink.old) (K.taken sink.new) (K.faults sink.old) (K.faults sink.new) result
+    ensures puts { Puts (K.told sink.old) (K.told sink.new) result
         (written (cert_text (due_certificate (H.pays holds.old) (H.bet holds.old)))) }
     ensures sum { IfOk result (λ sum. sum ≡ sum_of_best (H.pays holds.old) (H.bet holds.old)) }
     ensures asked { H.asked holds.new ≤ H.asked holds.old + length (representatives (H.pays holds.old).deck) }
     ensures same_table { H.pays holds.new ≡ H.pays holds.old }
     ensures same_coin { H.bet holds.new ≡ H.bet holds.old }
 {
-    let mut out = Out::new();
     let coin = holds.coin();
-    let denominator = denominator(holds.table().deck, coin);
-    put_bet(&mut out, coin, sink)?;
-    let sum = put_classes(&mut out, holds, sink)?;
-    put_return(&mut out, sum, denominator, sink)?;
+    let denominator = return_denominator(holds.table().deck, coin);
+    put_bet(coin, sink)?;
+    let sum = put_classes(holds, sink)?;
+    put_return(sum, denominator, sink)?;
     Ok(sum)
-}
-
-/// The number of deals, times the common denominator of the deck, times the bet.
-#[tactic(auto, using(vp_check::proofs::Breaches::denominator_fits), unfolding(vp_check::specs::Rules::denominator_of))]
-fn denominator(n: u8, coin: u8) -> u64
-    requires deck_from { 52 ≤ n }
-    requires deck_to { n ≤ 53 }
-    ensures { result ≡ denominator_of n coin }
-{
-    choose(n, 5) * common(n) * u64::from(coin)
 }

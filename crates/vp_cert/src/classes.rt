@@ -1,6 +1,6 @@
 //! The class lines, over all classes of deals.
 
-ghost use Rattle.std.specs.Prelude.{◌≡◌, ◌+◌, ◌≤◌, [], length, map, true, IfOk};
+ghost use Rattle.std.specs.Prelude.{◌≡◌, ◌+◌, ◌≤◌, length, map, true, IfOk};
 ghost use Rattle.vp_card.specs.Cards.{in_deck};
 ghost use Rattle.vp_pay.specs.Table.{IsTable};
 ghost use Rattle.vp_text.specs.Written.{written};
@@ -16,29 +16,25 @@ use crate::lines::put_class;
 use vp_check::ClassLine;
 use vp_io::{Sink, WriteFault};
 use vp_suit::{Class, Classes};
-use vp_text::Out;
 
 /// Puts a line for each class of deals, by rising index, and adds up the best values of all deals.
 pub(crate) fn put_classes<H: Holds, K: Sink>(
-    out: &mut Out,
     holds: &mut H,
     sink: &mut K,
 ) -> Result<u128, WriteFault>
-    requires empty { out.old ≡ [] }
-    ensures puts { Puts (K.taken sink.old) (K.taken sink.new) (K.faults sink.old) (K.faults sink.new) result
+    ensures puts { Puts (K.told sink.old) (K.told sink.new) result
         (written (map class_words (map (due_line (H.pays holds.old) (H.bet holds.old)) (representatives (H.pays holds.old).deck)))) }
     ensures sum { IfOk result (λ sum. sum ≡ sum_of_best (H.pays holds.old) (H.bet holds.old)) }
     ensures asked { H.asked holds.new ≤ H.asked holds.old + length (representatives (H.pays holds.old).deck) }
     ensures same_table { H.pays holds.new ≡ H.pays holds.old }
     ensures same_coin { H.bet holds.new ≡ H.bet holds.old }
-    ensures empty { out.new ≡ [] }
     ensures rules { IsTable (H.pays holds.old) }
 {
     let mut classes = Classes::new(holds.table().deck);
     let mut sum = 0;
     while let Some(class) = classes.next() {
         let line = due_line(holds, &class);
-        put_class(out, &line, sink)?;
+        put_class(&line, sink)?;
         sum += u128::from(line.weight) * u128::from(line.value);
     }
     Ok(sum)

@@ -5,7 +5,7 @@ ghost use Rattle.vp_card.specs.Cards.{in_deck};
 ghost use Rattle.vp_pay.specs.Table.{IsTable};
 ghost use Rattle.vp_pay.specs.declared.table.PayTable.{PayTable};
 ghost use Rattle.vp_draws.specs.Draws.{best, least_best, ties};
-ghost use Rattle.vp_io.specs.Causes.{one_more};
+ghost use Rattle.vp_io.specs.Causes.{last_count, one_more};
 
 use vp_card::Hand;
 use vp_draws::Best;
@@ -42,5 +42,6 @@ pub trait Holds {
         ensures ties { result.ties ≡ ties (pays self.old) (bet self.old) hand.now }
         ensures same_table { pays self.new ≡ pays self.old }
         ensures same_coin { bet self.new ≡ bet self.old }
-        ensures counted { asked self.new ≡ one_more (asked self.old) };
+        ensures counted { asked self.new ≡ one_more (asked self.old) }
+        ensures ends { asked self.new ≤ last_count };
 }

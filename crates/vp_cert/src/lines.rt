@@ -2,85 +2,48 @@
 
 ghost use Rattle.std.specs.Prelude.{◌≡◌, [], ◌∷◌, ◌++◌, codes};
 ghost use Rattle.std.specs.Fmt.{decimal};
-ghost use Rattle.vp_text.specs.Written.{line_of};
+ghost use Rattle.vp_text.specs.Written.{line_of, written};
 ghost use Rattle.vp_check.specs.Spelling.{class_words, return_words};
 ghost use Rattle.vp_io.specs.Puts.{Puts};
 
 use vp_check::ClassLine;
 use vp_io::{Sink, WriteFault};
-use vp_pay::{add_hand, put_line};
-use vp_text::Out;
+use vp_lines::{Word, put_lines, put_words};
 
 /// Puts the line of the bet.
-#[tactic(auto, using(vp_text::proofs::Room::length_with_word, vp_text::proofs::Room::length_decimal))]
-pub(crate) fn put_bet<K: Sink>(out: &mut Out, coin: u8, sink: &mut K) -> Result<(), WriteFault>
-    requires empty { out.old ≡ [] }
-    ensures puts { Puts (K.taken sink.old) (K.taken sink.new) (K.faults sink.old) (K.faults sink.new) result (line_of (codes "cert" ∷ decimal coin ∷ [])) }
-    ensures empty { out.new ≡ [] }
+pub(crate) fn put_bet<K: Sink>(coin: u8, sink: &mut K) -> Result<(), WriteFault>
+    ensures { Puts (K.told sink.old) (K.told sink.new) result (line_of (codes "cert" ∷ decimal coin ∷ [])) }
 {
-    out.word(b"cert");
-    out.number(u128::from(coin));
-    put_line(out, sink)
+    put_words(&[Word::Text(b"cert"), Word::Number(coin as u128)], sink)
 }
 
 /// Puts a class line.
-#[tactic(auto, using(vp_text::proofs::Room::length_with_word, vp_text::proofs::Room::length_decimal))]
-pub(crate) fn put_class<K: Sink>(
-    out: &mut Out,
-    line: &ClassLine,
-    sink: &mut K,
-) -> Result<(), WriteFault>
-    requires empty { out.old ≡ [] }
-    ensures puts { Puts (K.taken sink.old) (K.taken sink.new) (K.faults sink.old) (K.faults sink.new) result (line_of (class_words line.now)) }
-    ensures empty { out.new ≡ [] }
+#[tactic(auto, unfolding(vp_check::specs::Spelling::class_words))]
+pub(crate) fn put_class<K: Sink>(line: &ClassLine, sink: &mut K) -> Result<(), WriteFault>
+    ensures { Puts (K.told sink.old) (K.told sink.new) result (line_of (class_words line.now)) }
 {
-    out.word(b"class");
-    add_hand(out, &line.hand);
-    out.number(u128::from(line.weight));
-    out.number(u128::from(line.mask));
-    out.number(u128::from(line.value));
-    put_line(out, sink)
+    let words = [
+        Word::Text(b"class"),
+        Word::Hand(&line.hand),
+        Word::Number(line.weight as u128),
+        Word::Number(line.mask as u128),
+        Word::Number(line.value as u128),
+    ];
+    put_words(&words, sink)
 }
 
 /// Puts the line of the return, and the last line.
+#[tactic(auto, unfolding(vp_check::specs::Spelling::return_words))]
 pub(crate) fn put_return<K: Sink>(
-    out: &mut Out,
     sum: u128,
     denominator: u64,
     sink: &mut K,
 ) -> Result<(), WriteFault>
-    requires empty { out.old ≡ [] }
-    ensures { Puts (K.taken sink.old) (K.taken sink.new) (K.faults sink.old) (K.faults sink.new) result
-        (line_of (return_words sum denominator) ++ line_of (codes "end" ∷ [])) }
+    ensures { Puts (K.told sink.old) (K.told sink.new) result (written (return_words sum denominator ∷ (codes "end" ∷ []) ∷ [])) }
 {
-    put_fraction(out, sum, denominator, sink)?;
-    put_end(out, sink)
-}
-
-/// Puts the line of the return.
-#[tactic(auto, using(vp_text::proofs::Room::length_with_word, vp_text::proofs::Room::length_decimal))]
-fn put_fraction<K: Sink>(
-    out: &mut Out,
-    sum: u128,
-    denominator: u64,
-    sink: &mut K,
-) -> Result<(), WriteFault>
-    requires empty { out.old ≡ [] }
-    ensures puts { Puts (K.taken sink.old) (K.taken sink.new) (K.faults sink.old) (K.faults sink.new) result (line_of (return_words sum denominator)) }
-    ensures empty { out.new ≡ [] }
-{
-    out.word(b"return");
-    out.number(sum);
-    out.word(b"/");
-    out.number(u128::from(denominator));
-    put_line(out, sink)
-}
-
-/// Puts the last line.
-fn put_end<K: Sink>(out: &mut Out, sink: &mut K) -> Result<(), WriteFault>
-    requires empty { out.old ≡ [] }
-    ensures { Puts (K.taken sink.old) (K.taken sink.new) (K.faults sink.old) (K.faults sink.new) result (line_of (codes "end" ∷ [])) }
-{
-    out.word(b"end");
-    put_line(out, sink)
+    let fraction = [
+        Word::Text(b"return"),
+        Word::Fraction(sum, denominator as u128),
+    ];
+    put_lines(&[&fraction, &[Word::Text(b"end")]], sink)
 }

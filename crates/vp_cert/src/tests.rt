@@ -1,20 +1,19 @@
-//! One table with a joker, certified into a sink that counts bytes and into one that fails.
+//! Tables with jokers, certified and checked, and a sink that fails.
 
-ghost use Rattle.std.specs.Prelude.{◌≡◌, ◌<◌, length};
+ghost use Rattle.std.specs.Prelude.{◌≡◌, length};
 ghost use Rattle.vp_pay.specs.Table.{IsTable};
 ghost use Rattle.vp_count.specs.Table.{first_word};
 
 use crate::{Asked, certify};
-use std::marker::Brand;
-use std::sync::ledger::{Blank, Ledger};
 use std::test::*;
+use vp_check::{Checked, check};
 use vp_count::table_words;
 use vp_hold::Game;
-use vp_io::{CountSink, MemSink, Sink};
+use vp_io::{MemSink, Sink};
 use vp_pay::PayTable;
 use vp_text::Lines;
-use vp_wild::Steps;
 
+/// Pays 1 for a hand with the joker.
 const ONE_JOKER: &[u8] = b"table one-joker
 deck 53
 wild none
@@ -23,43 +22,99 @@ line joker wilds 1 either 1
 end
 ";
 
+/// Pays 1 for a hand with one joker, and 2 for one with both.
+const TWO_JOKERS: &[u8] = b"table two-jokers
+deck 54
+wild none
+coins 1
+line one wilds 1 either 1
+line both wilds 2 either 2
+end
+";
+
 /// The sum of the best values, where all lines were put, and how many best holds were asked for.
-fn certified<L: Ledger, K: Sink>(
-    table: &PayTable,
-    words: &mut [u64],
-    sink: &mut K,
-    blank: Blank,
-) -> (Option<u128>, u64)
+fn certified<K: Sink>(table: &PayTable, words: &mut [u64], sink: &mut K) -> (Option<u128>, u64)
     requires table { IsTable table.now }
     requires long { length words.old ≡ first_word table.now.deck 6 }
-    requires name { blank.name ≡ L.name }
-    requires parts { blank.parts ≡ L.parts }
-    requires share { 0 < blank.parts }
 {
-    let game = Game::fill(table, 1, words, &mut Steps::<L>::new(blank));
+    let game = Game::of(table, 1, words);
     let mut holds = Asked::new(&game);
     let sum = certify(&mut holds, sink).ok();
     (sum, holds.count())
 }
 
-/// The same for the table with a joker, into the sink.
-fn one_joker_into<K: Sink>(rt: &HostRuntime, sink: &mut K) -> Result<(Option<u128>, u64), Fail> {
-    let table = PayTable::read(&mut Lines::new(ONE_JOKER))
+/// The same for a table's text, into the sink.
+fn certified_into<K: Sink>(
+    rt: &HostRuntime,
+    table: &'static [u8],
+    sink: &mut K,
+) -> Result<(Option<u128>, u64), Fail> {
+    assert!(rt; table.len() < 1000);
+    let table = PayTable::read(&mut Lines::new(table))
         .ok()
         .ok_or("the table is refused")?;
     let mut words = vec![in rt.alloc(); 7u64; table_words(table.deck)]?;
-    Ok(certified::<Brand, K>(&table, &mut words, sink, Blank::new(1)))
+    Ok(certified(&table, &mut words, sink))
 }
 
-// The best holds keep the joker where it is dealt, and draw five cards where it is not.
+/// What a certificate says: its class lines, its return, the lines in front of its second class line, and its last lines.
+struct Due {
+    table: &'static [u8],
+    classes: u32,
+    sum: u64,
+    denominator: u64,
+    front: &'static [u8],
+    back: &'static [u8],
+}
+
+// The best holds keep the jokers that are dealt, and draw five cards where there are none: 5 / 48 and 10 / 49 of a joker come in the
+// mean. Each certificate is found true, its first class line being walked.
 #[test]
-fn one_joker(rt: HostRuntime) -> Result<(), Fail> {
-    let mut sink = CountSink::new();
-    assert_eq!(rt;
-        one_joker_into(&rt, &mut sink)?,
-        (Some(4635635004000), 150891)
-    );
-    assert!(rt; sink.bytes() > 150891 * 30);
+fn decks_with_jokers(rt: HostRuntime) -> Result<(), Fail> {
+    let cases = [
+        Due {
+            table: ONE_JOKER,
+            classes: 150891,
+            sum: 4635635004000,
+            denominator: 24568865521200,
+            front: b"end\ncert 1\nclass 2c 2d 2h 2s 3c 4 0 891825\n",
+            back: b"class Ac Ad Ah As Jo 1 16 8561520\nreturn 4635635004000 / 24568865521200\nend\n",
+        },
+        Due {
+            table: TWO_JOKERS,
+            classes: 169078,
+            sum: 4424924322000,
+            denominator: 12061079437680,
+            front: b"end\ncert 1\nclass 2c 2d 2h 2s 3c 4 0 778320\n",
+            back: b"class Ac Ad Ah Jo Jk 4 24 7627536\nreturn 4424924322000 / 12061079437680\nend\n",
+        },
+    ];
+    for due in cases {
+        let mut room = vec![in rt.alloc(); 0u8; 8_000_000]?;
+        let mut sink = MemSink::new(&mut room, 8_000_000, &[]);
+        assert_eq!(rt;
+            certified_into(&rt, due.table, &mut sink)?,
+            (Some(u128::from(due.sum)), u64::from(due.classes))
+        );
+        let text = sink.taken();
+        assert!(rt; text.len() < 8_000_000);
+        assert!(rt; text.starts_with(&due.table[..due.table.len().saturating_sub(4)]));
+        assert!(rt;
+            text.windows(due.front.len())
+                .take(200)
+                .any(|lines| lines == due.front)
+        );
+        assert!(rt; text.ends_with(due.back));
+        assert_eq!(rt;
+            check(text, 1, 1),
+            Ok(Checked {
+                classes: due.classes,
+                walked: 1,
+                sum: due.sum,
+                denominator: due.denominator,
+            })
+        );
+    }
     Ok(())
 }
 
@@ -68,7 +123,7 @@ fn one_joker(rt: HostRuntime) -> Result<(), Fail> {
 fn third_write_fails(rt: HostRuntime) -> Result<(), Fail> {
     let mut room = [0; 100];
     let mut sink = MemSink::new(&mut room, 100, &[3]);
-    assert_eq!(rt; one_joker_into(&rt, &mut sink)?, (None, 0));
+    assert_eq!(rt; certified_into(&rt, ONE_JOKER, &mut sink)?, (None, 0));
     assert_eq!(rt; sink.taken(), b"table one-joker\ndeck 53\n".as_slice());
     Ok(())
 }
