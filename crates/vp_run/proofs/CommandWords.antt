@@ -1,50 +1,113 @@
--- What is known of a command from its words alone.
-use Rattle.std.proofs.Common.{◌≡◌, ℕ, ◌≤◌, Bool, true, false, List, [], ◌∷◌, Option, Some, None, arith, if◌then◌else◌}
+-- Words are a command exactly where they spell it.
+use Rattle.std.proofs.Common.{◌≡◌, ℕ, ◌^◌, ◌<◌, ◌≤◌, Bool, true, false, List, [], ◌∷◌, Option, Some, None, arith, if◌then◌else◌, refl, sym, ap, subst, ◌∙◌}
 use Rattle.std.specs.Prelude.{bytes_eq, codes, option_map}
+use Rattle.std.specs.Fmt.{decimal}
+use Rattle.std.proofs.lemmas.Slice.Eq.{bytes_eq-Decides}
 use Rattle.vp_text.specs.Lines.{Word}
 use Rattle.vp_text.specs.Numbers.{number_within}
-use Rattle.vp_text.proofs.Numbers.{number_within_exact}
 use Rattle.vp_text.specs.Pieces.{◌>>=◌}
-use Rattle.vp_run.specs.Commands.{bet_command_of, check_of, coin_of, command_of}
-use Rattle.vp_run.specs.declared.command.Command.TheVariants.{Certify, Check, Deal, Tables}
+use Rattle.vp_text.proofs.Numbers.{number_within_exact}
+use Rattle.vp_text.proofs.Pieces.{bound, chosen}
+use Rattle.vp_run.specs.Commands.{AreInRange, CommandsAreSpelled, InRange, alone, bet, check, coin_of, command_of, command_words, lines_of, task_of, task_words}
+use Rattle.vp_run.specs.declared.command.Command.{Command}
+use Rattle.vp_run.specs.declared.command.Command.TheVariants.{Over, Tables}
+use Rattle.vp_run.specs.declared.command.Task.{Task}
+use Rattle.vp_run.specs.declared.command.Task.TheVariants.{Certify, Check, Deal}
 
-some_coin : (word : Word) (coin : ℕ) → coin_of word ≡ Some coin → 1 ≤ coin
+-- the words spell the task, and its numbers are in range
+abbrev Spells : List Word → Task → Type 0
+Spells words task = (words ≡ task_words task) × InRange task
+
+-- a number in range, from its digits
+digits : (least most : ℕ) (word : Word) (n : ℕ) → most < 2 ^ 64 → number_within least most word ≡ Some n → ((least ≤ n) × (n ≤ most)) × (decimal n ≡ word)
+digits least most word n below is = (number_within_exact least most below).takes word n is
+
+a_bet : (key : Word) (task : ℕ → Task) → ((coin : ℕ) → task_words (task coin) ≡ key ∷ decimal coin ∷ []) → ((coin : ℕ) → (1 ≤ coin) × (coin ≤ 5) → InRange (task coin))
+    → (numbers : List Word) (read : Task) → bet task numbers ≡ Some read → Spells (key ∷ numbers) read
 unfolding coin_of
-some_coin word coin is = ((number_within_exact 1 5 (omega arith)).takes word coin is).0.0
+a_bet key task spelled fits [] read e = absurd cc
+a_bet key task spelled fits (number ∷ second ∷ more) read e = absurd cc
+a_bet key task spelled fits (number ∷ []) read e = of_coin (number_within 1 5 number) refl e
+  where
+    of_coin : (coin : Option ℕ) → number_within 1 5 number ≡ coin → option_map task coin ≡ Some read → Spells (key ∷ number ∷ []) read
+    of_coin None is e = absurd cc
+    of_coin (Some coin) is e =
+        let said = digits 1 5 number coin (omega arith) is in
+        let same : task coin ≡ read = cc in
+        subst (λ (t : Task). Spells (key ∷ number ∷ []) t) same (ap (λ (w : Word). key ∷ w ∷ []) (sym said.1) ∙ sym (spelled coin), fits coin said.0)
 
--- the bet that is read, is the bet of the command
-same_coin : (read : Option ℕ) (coin : ℕ) → option_map Certify read ≡ Some (Certify coin) → read ≡ Some coin
-same_coin (Some n) coin is = cc
-same_coin None coin is = absurd (cc)
+a_check : (numbers : List Word) (read : Task) → check numbers ≡ Some read → Spells (codes "check" ∷ numbers) read
+a_check [] read e = absurd cc
+a_check (first ∷ []) read e = absurd cc
+a_check (first ∷ second ∷ third ∷ more) read e = absurd cc
+a_check (first ∷ second ∷ []) read e =
+    let from = bound (number_within 1 200000 first) _ read e in
+    let count = bound (number_within 0 200000 second) _ read from.then in
+    let f = digits 1 200000 first from.value (omega arith) from.first in
+    let n = digits 0 200000 second count.value (omega arith) count.first in
+    let same : Check from.value count.value ≡ read = (let e : Some (Check from.value count.value) ≡ Some read = count.then in cc) in
+    subst (λ (t : Task). Spells (codes "check" ∷ first ∷ second ∷ []) t) same
+    (ap (λ (w : Word). codes "check" ∷ w ∷ second ∷ []) (sym f.1) ∙ ap (λ (w : Word). codes "check" ∷ decimal from.value ∷ w ∷ []) (sym n.1), record { some = f.0.0; most_from = f.0.1; most_count = n.0.1 })
 
-never_deal : (read : Option ℕ) (coin : ℕ) → option_map Deal read ≡ Some (Certify coin) → ⊥
-never_deal (Some n) coin is = absurd (cc)
-never_deal None coin is = absurd (cc)
+-- a word that is this key, and else the choice behind it
+keyed : (key word : Word) (numbers : List Word) (here other : Option Task) (read : Task) → (if bytes_eq word key then here else other) ≡ Some read
+    → (here ≡ Some read → Spells (key ∷ numbers) read) → (other ≡ Some read → Spells (word ∷ numbers) read) → Spells (word ∷ numbers) read
+keyed key word numbers here other read e is there =
+    chosen (λ (t : Task). Spells (word ∷ numbers) t) (bytes_eq word key) here other read e
+    (λ same said. subst (λ (w : Word). Spells (w ∷ numbers) read) (sym ((bytes_eq-Decides word key).0 same)) (is said))
+    there
 
-never_check : (from count : Option ℕ) (coin : ℕ) → (from >>= λ f. count >>= λ n. Some (Check f n)) ≡ Some (Certify coin) → ⊥
-never_check (Some f) (Some n) coin is = absurd (cc)
-never_check (Some f) None coin is = absurd (cc)
-never_check None count coin is = absurd (cc)
+-- a line for each task
+task_spelled : (word : Word) (numbers : List Word) (read : Task) → task_of word numbers ≡ Some read → Spells (word ∷ numbers) read
+unfolding task_of
+task_spelled word numbers read e =
+    keyed (codes "deal") word numbers (bet Deal numbers) _ read e (a_bet (codes "deal") Deal (λ coin. refl) (λ coin is. is) numbers read) (λ e.
+    keyed (codes "certify") word numbers (bet Certify numbers) _ read e (a_bet (codes "certify") Certify (λ coin. refl) (λ coin is. is) numbers read) (λ e.
+    keyed (codes "check") word numbers (check numbers) None read e (a_check numbers read) (λ none. absurd cc)))
 
-of_bet : (deal certify : Bool) (number : Word) (coin : ℕ) → (if deal then option_map Deal (coin_of number) else (if certify then option_map Certify (coin_of number) else None)) ≡ Some (Certify coin) → 1 ≤ coin
-of_bet true certify number coin is = absurd (never_deal (coin_of number) coin is)
-of_bet false true number coin is = some_coin number coin (same_coin (coin_of number) coin is)
-of_bet false false number coin is = absurd (cc)
+task_read : (task : Task) → InRange task → command_of (task_words task) ≡ Some (Over task)
+unfolding command_of task_of coin_of
+task_read (Deal coin) is = ap (λ o. option_map Over (option_map Deal o)) ((number_within_exact 1 5 (omega arith)).again coin is)
+task_read (Certify coin) is = ap (λ o. option_map Over (option_map Certify o)) ((number_within_exact 1 5 (omega arith)).again coin is)
+task_read (Check from count) is =
+    let f = (number_within_exact 1 200000 (omega arith)).again from (is.some, is.most_from) in
+    let n = (number_within_exact 0 200000 (omega arith)).again count (omega arith, is.most_count) in
+    ap (λ o. option_map Over (o >>= λ a. number_within 0 200000 (decimal count) >>= λ b. Some (Check a b))) f
+    ∙ ap (λ o. option_map Over (o >>= λ b. Some (Check from b))) n
 
-of_tables : (b : Bool) (coin : ℕ) → (if b then Some Tables else None) ≡ Some (Certify coin) → 1 ≤ coin
-of_tables true coin is = absurd (cc)
-of_tables false coin is = absurd (cc)
+-- the words of a command that were read
+abbrev Says : List Word → Command → Type 0
+Says words command = (words ≡ command_words command) × AreInRange command
 
-of_check : (b : Bool) (first second : Word) (coin : ℕ) → (if b then check_of first second else None) ≡ Some (Certify coin) → 1 ≤ coin
-unfolding check_of
-of_check true first second coin is = absurd (never_check (number_within 1 200000 first) (number_within 0 200000 second) coin is)
-of_check false first second coin is = absurd (cc)
+over_spelled : (words : List Word) (read : Option Task) (command : Command) → option_map Over read ≡ Some command → ((task : Task) → read ≡ Some task → Spells words task) → Says words command
+over_spelled words None command e is = absurd cc
+over_spelled words (Some task) command e is =
+    let same : Over task ≡ command = cc in
+    subst (λ (c : Command). Says words c) same (is task refl)
 
--- the bet of `certify` is at least 1
-pub certify_coin : (words : List Word) (coin : ℕ) → command_of words ≡ Some (Certify coin) → 1 ≤ coin
-unfolding command_of bet_command_of
-certify_coin [] coin is = absurd (cc)
-certify_coin (word ∷ []) coin is = of_tables (bytes_eq word (codes "tables")) coin is
-certify_coin (word ∷ number ∷ []) coin is = of_bet (bytes_eq word (codes "deal")) (bytes_eq word (codes "certify")) number coin is
-certify_coin (word ∷ first ∷ second ∷ []) coin is = of_check (bytes_eq word (codes "check")) first second coin is
-certify_coin (word ∷ first ∷ second ∷ third ∷ more) coin is = absurd (cc)
+alone_spelled : (word : Word) (command : Command) → alone word ≡ Some command → Says (word ∷ []) command
+alone_spelled word command e =
+    chosen (λ (c : Command). Says (word ∷ []) c) (bytes_eq word (codes "tables")) (Some Tables) None command e
+    (λ is said. let same : Tables ≡ command = cc in subst (λ (c : Command). Says (word ∷ []) c) same (ap (λ (w : Word). w ∷ []) ((bytes_eq-Decides word (codes "tables")).0 is), tt))
+    (λ none. absurd cc)
+
+read_spelled : (words : List Word) (command : Command) → command_of words ≡ Some command → Says words command
+unfolding command_of
+read_spelled [] command e = absurd cc
+read_spelled (word ∷ []) command e = alone_spelled word command e
+read_spelled (word ∷ number ∷ more) command e = over_spelled (word ∷ number ∷ more) (task_of word (number ∷ more)) command e (task_spelled word (number ∷ more))
+
+tables_read : command_of (codes "tables" ∷ []) ≡ Some Tables
+unfolding command_of
+tables_read = refl
+
+command_read : (command : Command) → AreInRange command → command_of (command_words command) ≡ Some command
+command_read Tables is = tables_read
+command_read (Over task) is = task_read task is
+
+pub commands_spelled : CommandsAreSpelled
+commands_spelled words command = (read_spelled words command, λ (same, is). ap command_of same ∙ command_read command is)
+
+-- the numbers of a task are in range
+pub in_range : (words : List Word) (task : Task) → command_of words ≡ Some (Over task) → InRange task
+in_range words task is = (read_spelled words (Over task) is).1

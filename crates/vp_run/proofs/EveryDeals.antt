@@ -5,7 +5,7 @@ use Rattle.std.proofs.lemmas.Bool.Decides.{nat_tests}
 use Rattle.vp_text.specs.Lines.{Feed, Word, feed_of}
 use Rattle.vp_text.specs.Written.{written}
 use Rattle.vp_pay.specs.declared.table.PayTable.{PayTable}
-use Rattle.vp_pay.specs.Table.{IsTable}
+use Rattle.vp_pay.specs.Bets.{IsBet}
 use Rattle.vp_check.specs.Certificates.{Certificate, IsCertificate}
 use Rattle.vp_check.specs.Checking.{check_result, verdict}
 use Rattle.vp_check.specs.EveryDeal.{TellsEveryDeal}
@@ -15,52 +15,69 @@ use Rattle.vp_check.specs.Truth.{IsTrueOver, due_certificate}
 use Rattle.vp_check.proofs.Answered.{verdict_is}
 use Rattle.vp_check.proofs.EveryDeals.{true_tells, walked_tell}
 use Rattle.vp_check.proofs.PlainCertificates.{written_whole}
+use Rattle.vp_check.proofs.ShortTexts.{short_certificate}
 use Rattle.vp_check.proofs.TrueOnes.{all_walked_true, due_is_certificate, due_is_true, true_anywhere}
-use Rattle.vp_run.specs.Answer.{Answer, answer, check_answer, finding}
+use Rattle.vp_answer.specs.Answers.{Answer, answer_read, done}
+use Rattle.vp_run.specs.Answer.{answer, certify_job, check_read, job_text, read_as}
+use Rattle.vp_run.specs.Certify.{certify_input}
+use Rattle.vp_run.specs.Deal.{has_bet}
 use Rattle.vp_run.specs.Commands.{command_of}
-use Rattle.vp_run.specs.declared.command.Command.TheVariants.{Check}
-use Rattle.vp_run.specs.declared.status.Status.TheVariants.{Done}
-use Rattle.vp_run.specs.EveryDeal.{CertificatesAreChecked, CertificatesTellEveryDeal, ChecksTellEveryDeal, ChecksTellWalkedDeals}
-use Rattle.vp_run.proofs.CertifyInputs.{table_found}
+use Rattle.vp_run.specs.declared.command.Command.TheVariants.{Over}
+use Rattle.vp_run.specs.declared.command.Task.TheVariants.{Certify, Check}
+use Rattle.vp_answer.specs.declared.status.Status.TheVariants.{Done}
+use Rattle.vp_run.specs.EveryDeal.{CertificatesAreChecked, IsCheckedWell, CertificatesTellEveryDeal, ChecksTellEveryDeal, ChecksTellWalkedDeals}
+use Rattle.vp_answer.proofs.Inputs.{tables_read}
 use Rattle.vp_run.proofs.CheckInputs.{judged}
-use Rattle.vp_run.proofs.CommandWords.{certify_coin}
-use Rattle.vp_run.proofs.NoCommand.{answer_as, certify_as}
+use Rattle.vp_run.proofs.CommandWords.{in_range}
+use Rattle.vp_run.proofs.NoCommand.{answer_as}
 
 -- ---- certify
-
-certify_tells : (table : PayTable) (coin : ℕ) → IsTable table → 1 ≤ coin → coin ≤ table.coins → TellsEveryDeal (due_certificate table coin)
-certify_tells table coin rules some most = true_tells (due_certificate table coin) (due_is_certificate table coin rules some most) (due_is_true table coin rules)
 
 bet_fits : (coin coins : ℕ) → IsTrue (nat_le coin coins) → coin ≤ coins
 bet_fits coin coins fits = grind (arith, nat_tests)
 
+-- the bet of an input of `certify` is one of its table
+bet_found : (words : List Word) (coin : ℕ) (bytes : List ℕ) (table : PayTable) → command_of words ≡ Some (Over (Certify coin)) → certify_input coin bytes ≡ Ok (table, tt) → IsBet table coin
+bet_found words coin bytes table is says =
+    let found = ((tables_read (has_bet coin)).spelled bytes (table, tt)).0 says in
+    record { rules = found.0; some = (in_range words (Certify coin) is).0; within = bet_fits coin table.coins found.1 }
+
+-- the answer of `certify` to what its input says
+certify_as : (words : List Word) (coin : ℕ) (bytes : List ℕ) (table : PayTable) → command_of words ≡ Some (Over (Certify coin)) → certify_input coin bytes ≡ Ok (table, tt)
+    → done (written (certificate_text (due_certificate table coin))) ≡ answer words bytes
+certify_as words coin bytes table is says =
+    ap (λ r. answer_read job_text (read_as (certify_job coin) r)) (sym says) ∙ answer_as words (Some (Over (Certify coin))) bytes is
+
 pub certificates_tell : CertificatesTellEveryDeal
 unfolding due_certificate
 certificates_tell words coin bytes table is says =
-    let due = certify_as words coin bytes (Ok (table, tt)) is says in
-    let found = table_found coin bytes table says in
+    let due = certify_as words coin bytes table is says in
+    let bet = bet_found words coin bytes table is says in
+    let c = due_certificate table coin in
+    let grammar = due_is_certificate table coin bet in
     record {
-      certificate = due_certificate table coin;
+      certificate = c;
       table_is = refl;
       coin_is = refl;
       status = ap (λ (a : Answer). a.status) (sym due);
       text = ap (λ (a : Answer). a.text) (sym due);
-      tells = certify_tells table coin found.0 (certify_coin words coin is) (bet_fits coin table.coins found.1);
+      grammar = grammar;
+      due_is = refl;
+      tells = true_tells c grammar (due_is_true table coin bet.rules);
     }
 
 -- ---- check
 
 -- a check that is done found no broken rule
-done_true : (from count : ℕ) (c : Certificate) (feed : Feed) (broken : Option Break) → first_break from count c ≡ broken → (check_answer (verdict from count c feed broken)).status ≡ Done → IsTrueOver from count c
-unfolding finding
+done_true : (from count : ℕ) (c : Certificate) (feed : Feed) (broken : Option Break) → first_break from count c ≡ broken → (answer_read job_text (check_read (verdict from count c feed broken))).status ≡ Done → IsTrueOver from count c
 done_true from count c feed None is done = is
 done_true from count c feed (Some b) is done = absurd (cc)
 
-check_true : (words : List Word) (from count : ℕ) (bytes : List ℕ) (c : Certificate) → command_of words ≡ Some (Check from count) → SpellsCertificate bytes c → (answer words bytes).status ≡ Done → IsTrueOver from count c
+check_true : (words : List Word) (from count : ℕ) (bytes : List ℕ) (c : Certificate) → command_of words ≡ Some (Over (Check from count)) → SpellsCertificate bytes c → (answer words bytes).status ≡ Done → IsTrueOver from count c
 check_true words from count bytes c is spells done =
-    let same : check_answer (check_result bytes from count) ≡ answer words bytes = answer_as words (Some (Check from count)) bytes is in
-    let due : (check_answer (verdict from count c (feed_of bytes) (first_break from count c))).status ≡ Done =
-    ap (λ v. (check_answer v).status) (sym (judged from count bytes c spells)) ∙ (ap (λ (a : Answer). a.status) same ∙ done) in
+    let same : answer_read job_text (check_read (check_result bytes from count)) ≡ answer words bytes = answer_as words (Some (Over (Check from count))) bytes is in
+    let due : (answer_read job_text (check_read (verdict from count c (feed_of bytes) (first_break from count c)))).status ≡ Done =
+    ap (λ v. (answer_read job_text (check_read v)).status) (sym (judged from count bytes c spells)) ∙ (ap (λ (a : Answer). a.status) same ∙ done) in
     done_true from count c (feed_of bytes) (first_break from count c) refl due
 
 pub checks_tell : ChecksTellEveryDeal
@@ -74,14 +91,16 @@ checks_tell_walked words from count bytes c is spells done = walked_tell from co
 
 -- what is printed is read again, and is true over whatever lines are walked
 pub certificates_checked : CertificatesAreChecked
-certificates_checked words others coin from count bytes table is says asks =
-    let c : Certificate = due_certificate table coin in
-    let found = table_found coin bytes table says in
-    let grammar : IsCertificate c = due_is_certificate table coin found.0 (certify_coin words coin is) (bet_fits coin table.coins found.1) in
-    let text : List ℕ = written (certificate_text c) in
-    let printed : text ≡ (answer words bytes).text = ap (λ (a : Answer). a.text) (certify_as words coin bytes (Ok (table, tt)) is says) in
-    let unbroken : first_break from count c ≡ None = true_anywhere from count c grammar (due_is_true table coin found.0) in
-    let result : check_result text from count ≡ verdict from count c (feed_of text) None = verdict_is text from count c None (written_whole c grammar) unbroken in
-    let done : (answer others text).status ≡ Done =
-    ap (λ (a : Answer). a.status) (sym (answer_as others (Some (Check from count)) text asks)) ∙ ap (λ v. (check_answer v).status) result in
-    subst (λ (bs : List ℕ). (answer others bs).status ≡ Done) printed done
+certificates_checked words coin bytes table is says =
+    let bet = bet_found words coin bytes table is says in
+    let c = due_certificate table coin in
+    let grammar : IsCertificate c = due_is_certificate table coin bet in
+    let printed : written (certificate_text c) ≡ (answer words bytes).text = ap (λ (a : Answer). a.text) (certify_as words coin bytes table is says) in
+    subst IsCheckedWell printed (record { short = short_certificate c grammar; well = well c grammar bet refl })
+  where
+    well : (c : Certificate) → IsCertificate c → IsBet table coin → c ≡ due_certificate table coin → (others : List Word) (from count : ℕ) → command_of others ≡ Some (Over (Check from count)) → (answer others (written (certificate_text c))).status ≡ Done
+    well c grammar bet due others from count asks =
+        let text = written (certificate_text c) in
+        let unbroken : first_break from count c ≡ None = true_anywhere from count c grammar (rw due (due_is_true table coin bet.rules)) in
+        let result : check_result text from count ≡ verdict from count c (feed_of text) None = verdict_is text from count c None (written_whole c grammar) unbroken in
+        ap (λ (a : Answer). a.status) (sym (answer_as others (Some (Over (Check from count))) text asks)) ∙ ap (λ v. (answer_read job_text (check_read v)).status) result

@@ -1,28 +1,48 @@
--- The arguments as words, and how the program ends without memory for their list.
-use Rattle.std.proofs.Common.{◌≡◌, ℕ, List, [], map, refl, ap, ◌∙◌, arith, Option}
-use Rattle.std.specs.Prelude.{Result, Ok, Err, IfOk, Vec}
-use Rattle.std.proofs.KnownBytes.{Consumes-nil, Keeps-refl}
-use Rattle.std.proofs.lemmas.Iterator.{IsCollectResult, YieldsList, items_from_drains}
-use Rattle.vp_io.specs.Streams.{GaveUpTo}
+-- More than six words are no command, whatever they are.
+use Rattle.std.proofs.Common.{◌≡◌, ℕ, List, [], ◌∷◌, take, refl, ap, ◌∙◌, subst, true, false, Option}
+use Rattle.std.specs.Option.{option_map_or}
+use Rattle.vp_io.specs.Streams.{Told}
 use Rattle.vp_text.specs.Lines.{Word}
+use Rattle.vp_answer.specs.Answers.{Answer}
+use Rattle.vp_run.specs.Answer.{answer, answer_to, needs_input}
 use Rattle.vp_run.specs.Arguments.{Ended}
-use Rattle.vp_run.specs.Outcome.{Told}
-use Rattle.vp_run.specs.StatusCode.{code_of}
-use Rattle.vp_run.specs.declared.status.Status.TheVariants.{NoMemory}
+use Rattle.std.specs.Prelude.{option_map}
+use Rattle.vp_run.specs.Commands.{command_of, reads, task_of}
+use Rattle.vp_run.specs.declared.command.Command.TheVariants.{Over}
+use Rattle.vp_answer.specs.Outcome.{Outcome, Unread}
+use Rattle.vp_answer.specs.StatusCode.{code_of}
+use Rattle.vp_run.specs.declared.command.Command.{Command}
+use Rattle.vp_answer.specs.declared.status.Status.{Status}
 
--- what v sees of the collected items is what it sees of those that the chain gives
-pub seen_from_collect : {S A B Z E : Type 0} {steps : S → Option A → S → Type 0} {v : A → B} {s : S} {all : List B} (r : Result (Vec A Z) E)
-    → IsCollectResult steps s r → YieldsList steps v s all → IfOk r (λ w. map v w.items ≡ all)
-seen_from_collect {v = v} (Ok w) (xs, drains, same) gives = ap (map v) same.0 ∙ items_from_drains xs drains gives
-seen_from_collect (Err e) ran gives = tt
+task_of-take : (a b c d : Word) (more : List Word) → option_map Over (task_of a (take 5 (b ∷ c ∷ d ∷ more))) ≡ option_map Over (task_of a (b ∷ c ∷ d ∷ more))
+unfolding task_of
+task_of-take a b c d more = refl
 
--- without memory for the list of words nothing is read and nothing written
-pub ended_early : (words : List Word) (source sink : Told) (code : ℕ) → code ≡ code_of NoMemory → Ended words source source sink sink code
-ended_early words source sink code is =
-    let none : GaveUpTo source.bytes source.bytes 67108865 = ([], Consumes-nil source.bytes, omega arith) in
+command_of-take : (words : List Word) → command_of (take 6 words) ≡ command_of words
+unfolding command_of
+command_of-take [] = refl
+command_of-take (a ∷ []) = refl
+command_of-take (a ∷ b ∷ []) = refl
+command_of-take (a ∷ b ∷ c ∷ []) = refl
+command_of-take (a ∷ b ∷ c ∷ d ∷ more) = task_of-take a b c d more
+
+pub needs-take : (words : List Word) → needs_input (take 6 words) ≡ needs_input words
+unfolding needs_input
+needs-take words = ap (λ (c : Option Command). option_map_or reads c false) (command_of-take words)
+
+answer-take : (words : List Word) → answer (take 6 words) ≡ answer words
+unfolding answer
+answer-take words = ap {B = List ℕ → Answer} (λ (c : Option Command) (bytes : List ℕ). answer_to c bytes) (command_of-take words)
+
+-- what the first six words end with, all words do
+pub ended_as : (words given : List Word) (source left sink taken : Told) (status : Status) (code : ℕ) → given ≡ take 6 words → code ≡ code_of status
+    → (needs_input given ≡ false → Unread (answer given []) sink taken status) → (needs_input given ≡ true → Outcome (answer given) source left sink taken status) → Ended words source left sink taken code
+ended_as words given source left sink taken status code is code_is unread command =
+    let needs : needs_input given ≡ needs_input words = ap needs_input is ∙ needs-take words in
+    let same : answer given ≡ answer words = ap answer is ∙ answer-take words in
     record {
-      status = NoMemory;
-      code_is = is;
-      unread = λ needs. record { same = Keeps-refl sink.bytes; no_fault = refl };
-      command = λ needs. (record { gave = none; no_fault = refl }, record { same = Keeps-refl sink.bytes; no_fault = refl });
+      status = status;
+      code_is = code_is;
+      unread = λ none. subst (λ (f : List ℕ → Answer). Unread (f []) sink taken status) same (unread (needs ∙ none));
+      command = λ some. subst (λ (f : List ℕ → Answer). Outcome f source left sink taken status) same (command (needs ∙ some));
     }

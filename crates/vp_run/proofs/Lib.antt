@@ -1,8 +1,7 @@
-pub mod Ends
 pub mod NoCommand
 pub mod CommandWords
-pub mod DealInputs
-pub mod CertifyInputs
 pub mod CheckInputs
 pub mod EveryDeals
 pub mod GivenWords
+pub mod SomeText
+pub mod DealtHands

@@ -1,94 +1,70 @@
 -- What the program answers to its words and its input.
-use Rattle.std.specs.Prelude.{◌≡◌, ◌≢◌, ℕ, Bool, true, false, nat_le, List, [], ◌∷◌, ◌++◌, Option, Some, None, is_some, Result, Ok, Err, codes}
+use Rattle.std.specs.Prelude.{◌≡◌, ◌≢◌, ℕ, Bool, true, false, List, [], ◌∷◌, ◌++◌, Option, Some, None, is_some, Result, Ok, Err, codes}
 use Rattle.std.specs.Option.{option_map_or}
-use Rattle.std.specs.Fmt.{decimal}
-use Rattle.vp_text.specs.Lines.{feed_of}
-use Rattle.vp_text.specs.Reading.{fitting, nothing, whole}
 use Rattle.vp_text.specs.Written.{line_of, written}
 use Rattle.vp_check.specs.Checking.{check_result}
 use Rattle.vp_check.specs.Spelling.{certificate_text}
 use Rattle.vp_check.specs.Truth.{due_certificate}
-use Rattle.vp_check.specs.declared.finding.CertRule.{CertRule}
 use Rattle.vp_check.specs.declared.finding.Checked.{Checked}
-use Rattle.vp_check.specs.declared.finding.Finding.{Finding as CheckFinding}
+use Rattle.vp_check.specs.declared.finding.Finding.{Finding}
 use Rattle.vp_check.specs.declared.finding.Finding.TheVariants.{Refused as RefusedAt, Bad}
 use Rattle.vp_pay.specs.BuiltIn.{built_in}
 use Rattle.vp_pay.specs.Spelling.{table_text}
-use Rattle.vp_pay.specs.Sections.{table_at, hand_at}
 use Rattle.vp_pay.specs.declared.table.PayTable.{PayTable}
-use Rattle.vp_sets.specs.Draws.{common}
-use Rattle.vp_draws.specs.Draws.{value, best, least_best, ties}
-use Rattle.vp_run.specs.CheckText.{finding_words, checked_lines}
+use Rattle.vp_answer.specs.Answers.{Answer, answer_read, done}
+use Rattle.vp_answer.specs.declared.status.Status.TheVariants.{Usage}
+use Rattle.vp_answer.specs.declared.stop.Stop.{Stop}
+use Rattle.vp_answer.specs.declared.stop.Stop.TheVariants.{Finding as Found, Refused as Refusal}
+use Rattle.vp_run.specs.Certify.{certify_input}
+use Rattle.vp_run.specs.Check.{checked_lines, rule_of}
 use Rattle.vp_run.specs.Commands.{command_of, reads}
-use Rattle.vp_run.specs.DealText.{deal_lines}
+use Rattle.vp_run.specs.Deal.{deal_input, deal_lines}
 use Rattle.vp_run.specs.declared.command.Command.{Command}
-use Rattle.vp_run.specs.declared.command.Command.TheVariants.{Certify, Check, Deal, Tables}
-use Rattle.vp_run.specs.declared.deal_text.DealFigures.{DealFigures}
-use Rattle.vp_run.specs.declared.status.Status.{Status}
-use Rattle.vp_run.specs.declared.status.Status.TheVariants.{Done, Finding, Usage, Refused}
+use Rattle.vp_run.specs.declared.command.Command.TheVariants.{Over, Tables}
+use Rattle.vp_run.specs.declared.command.Task.{Task}
+use Rattle.vp_run.specs.declared.command.Task.TheVariants.{Certify, Check, Deal}
+use Rattle.vp_run.specs.declared.job.Job.{Job}
+use Rattle.vp_run.specs.declared.job.Job.TheVariants.{Certify as CertifyJob, Checked as CheckedJob, Deal as DealJob}
 
--- a status and a text
-pub record Answer : Type 0 where
-  pub status : Status
-  pub text : List ℕ
+-- ---- what is read, and its text
+
+-- what was read makes a job, or is refused at a line
+abbrev pub read_as : {A : Type 0} → (A → Job) → Result A ℕ → Result Job Stop
+read_as job (Ok read) = Ok (job read)
+read_as job (Err line) = Err (Refusal line)
+
+abbrev pub deal_job : ℕ → PayTable × List ℕ → Job
+deal_job coin read = DealJob (record { table = read.0; coin = coin; hand = read.1 })
+
+abbrev pub certify_job : ℕ → PayTable × Unit {0} → Job
+certify_job coin read = CertifyJob (record { table = read.0; coin = coin })
+
+-- what the check of a certificate gives
+abbrev pub check_read : Result Checked Finding → Result Job Stop
+check_read (Err (RefusedAt line)) = Err (Refusal line)
+check_read (Err (Bad line rule said due)) = Err (Found line (rule_of rule) said due)
+check_read (Ok checked) = Ok (CheckedJob checked)
+
+-- what is left to do once a task has read its input, or where it stops
+abbrev pub job_of : Task → List ℕ → Result Job Stop
+job_of (Deal coin) bytes = read_as (deal_job coin) (deal_input coin bytes)
+job_of (Certify coin) bytes = read_as (certify_job coin) (certify_input coin bytes)
+job_of (Check from count) bytes = check_read (check_result bytes from count)
+
+-- the text of a job
+abbrev pub job_text : Job → List ℕ
+-- of `deal`: the four lines of the hand
+job_text (DealJob d) = written (deal_lines d)
+-- of `certify`: the spelling of the true certificate whose masks are the least best ones
+job_text (CertifyJob s) = written (certificate_text (due_certificate s.table s.coin))
+-- of `check`: what the certificate says of itself
+job_text (CheckedJob checked) = written (checked_lines checked)
+
+-- ---- words that need no input
 
 -- the answer to words that are no command
 unfoldable pub usage : Answer
 usage = record { status = Usage; text = line_of (codes "usage" ∷ []) }
-
--- the answer to an input that is refused at a line
-unfoldable pub refusal : ℕ → Answer
-refusal line = record { status = Refused; text = line_of (codes "refused" ∷ decimal line ∷ []) }
-
--- ---- deal
-
--- the table has a column for a bet of at least 1
-abbrev pub has_bet : ℕ → PayTable → Bool
-has_bet coin table = nat_le coin table.coins
-
--- what an input of `deal` says: a pay table that has the bet, then a hand from its deck, and nothing else; or the line where it is refused
-unfoldable pub deal_input : ℕ → List ℕ → Result (PayTable × List ℕ) ℕ
-deal_input coin bytes = whole (fitting (has_bet coin) table_at (λ table. hand_at table.deck)) (feed_of bytes)
-
--- the figures of a hand: its least best hold, that hold's value, the value of holding all five, and how many holds are as good
-unfoldable pub deal_figures : PayTable → ℕ → List ℕ → DealFigures
-deal_figures table coin hand = record {
-  mask = least_best table coin hand;
-  value = best table coin hand;
-  pat = value table coin hand 31;
-  ties = ties table coin hand;
-  denominator = common table.deck;
-}
-
--- the answer of `deal` to what its input says
-abbrev pub deal_answer : ℕ → Result (PayTable × List ℕ) ℕ → Answer
-deal_answer coin (Err line) = refusal line
-deal_answer coin (Ok (table, hand)) = record { status = Done; text = written (deal_lines hand (deal_figures table coin hand)) }
-
--- ---- certify
-
--- what an input of `certify` says: a pay table that has the bet, and nothing else; or the line where it is refused
-unfoldable pub certify_input : ℕ → List ℕ → Result (PayTable × Unit {0}) ℕ
-certify_input coin bytes = whole (fitting (has_bet coin) table_at (λ table. nothing)) (feed_of bytes)
-
--- the answer of `certify` to what its input says: the spelling of the true certificate whose masks are the least best ones
-abbrev pub certify_answer : ℕ → Result (PayTable × Unit {0}) ℕ → Answer
-certify_answer coin (Err line) = refusal line
-certify_answer coin (Ok read) = record { status = Done; text = written (certificate_text (due_certificate read.0 coin)) }
-
--- ---- check
-
--- the answer where a line of a certificate breaks a rule
-unfoldable pub finding : ℕ → CertRule → ℕ → ℕ → Answer
-finding line rule said due = record { status = Finding; text = line_of (finding_words line rule said due) }
-
--- the answer of `check` to what the check of a certificate gives
-abbrev pub check_answer : Result Checked CheckFinding → Answer
-check_answer (Err (RefusedAt line)) = refusal line
-check_answer (Err (Bad line rule said due)) = finding line rule said due
-check_answer (Ok checked) = record { status = Done; text = written (checked_lines checked) }
-
--- ---- tables
 
 -- the spelling of a built-in table
 abbrev pub built_in_text : ℕ → List ℕ
@@ -96,16 +72,14 @@ built_in_text i = option_map_or (λ t. written (table_text t)) (built_in i) []
 
 -- the answer of `tables`: the four built-in tables, one after another
 unfoldable pub tables_answer : Answer
-tables_answer = record { status = Done; text = built_in_text 0 ++ (built_in_text 1 ++ (built_in_text 2 ++ built_in_text 3)) }
+tables_answer = done (built_in_text 0 ++ (built_in_text 1 ++ (built_in_text 2 ++ built_in_text 3)))
 
 -- ---- all commands
 
 -- the answer of a command to an input
 abbrev pub command_answer : Command → List ℕ → Answer
-command_answer (Deal coin) bytes = deal_answer coin (deal_input coin bytes)
-command_answer (Certify coin) bytes = certify_answer coin (certify_input coin bytes)
-command_answer (Check from count) bytes = check_answer (check_result bytes from count)
 command_answer Tables bytes = tables_answer
+command_answer (Over task) bytes = answer_read job_text (job_of task bytes)
 
 -- the answer to words, by the command that they are, if they are one
 abbrev pub answer_to : Option Command → List ℕ → Answer

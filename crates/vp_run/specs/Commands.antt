@@ -1,48 +1,89 @@
 -- The words of the commands.
-use Rattle.std.specs.Prelude.{ℕ, ◌≤◌, Bool, true, false, List, [], ◌∷◌, Option, Some, None, option_map, bytes_eq, codes, if◌then◌else◌}
+use Rattle.std.specs.Prelude.{◌≡◌, ◌↔◌, ℕ, ◌≤◌, Bool, true, false, List, [], ◌∷◌, Option, Some, None, option_map, bytes_eq, codes, if◌then◌else◌}
+use Rattle.std.specs.Fmt.{decimal}
 use Rattle.vp_text.specs.Lines.{Word}
 use Rattle.vp_text.specs.Numbers.{number_within}
 use Rattle.vp_text.specs.Pieces.{◌>>=◌}
 use Rattle.vp_run.specs.declared.command.Command.{Command}
-use Rattle.vp_run.specs.declared.command.Command.TheVariants.{Certify, Check, Deal, Tables}
+use Rattle.vp_run.specs.declared.command.Command.TheVariants.{Over, Tables}
+use Rattle.vp_run.specs.declared.command.Task.{Task}
+use Rattle.vp_run.specs.declared.command.Task.TheVariants.{Certify, Check, Deal}
 
--- the bet that a word spells: a number from 1 to 5
-unfoldable pub coin_of : Word → Option ℕ
-coin_of word = number_within 1 5 word
+-- ---- how a command is spelled
 
--- the check that two words spell: the place of the first class line that is walked, from 1 to 200000, and how many are, from 0 to 200000
-unfoldable pub check_of : Word → Word → Option Command
-check_of first second = do
-  from ← number_within 1 200000 first
-  count ← number_within 0 200000 second
-  Some (Check from count)
+-- the words of a task: its name, and its numbers in decimal digits
+abbrev pub task_words : Task → List Word
+task_words (Deal coin) = codes "deal" ∷ decimal coin ∷ []
+task_words (Certify coin) = codes "certify" ∷ decimal coin ∷ []
+task_words (Check from count) = codes "check" ∷ decimal from ∷ decimal count ∷ []
 
--- the command of a word and a bet
-unfoldable pub bet_command_of : Word → Word → Option Command
-bet_command_of word number =
-    if bytes_eq word (codes "deal") then option_map Deal (coin_of number) else (if bytes_eq word (codes "certify") then option_map Certify (coin_of number) else None)
+-- the words of a command
+abbrev pub command_words : Command → List Word
+command_words Tables = codes "tables" ∷ []
+command_words (Over task) = task_words task
 
--- the command that the words are, if they are one: `tables`; `deal` or `certify` and a bet; `check` and a range of class lines
-unfoldable pub command_of : List Word → Option Command
-command_of (word ∷ []) = if bytes_eq word (codes "tables") then Some Tables else None
-command_of (word ∷ number ∷ []) = bet_command_of word number
-command_of (word ∷ first ∷ second ∷ []) = if bytes_eq word (codes "check") then check_of first second else None
-command_of _ = None
-
--- the numbers of a check are in range
+-- the first class line that is walked is 1 to 200000, and 0 to 200000 are
 pub record IsRange (from count : ℕ) : Type 0 where
   pub some : 1 ≤ from
   pub most_from : from ≤ 200000
   pub most_count : count ≤ 200000
 
--- the numbers of a command are in range: a bet is 1 to 5
-abbrev pub InRange : Command → Type 0
+-- the numbers of a task are in range: a bet is 1 to 5
+abbrev pub InRange : Task → Type 0
 InRange (Deal coin) = (1 ≤ coin) × (coin ≤ 5)
 InRange (Certify coin) = (1 ≤ coin) × (coin ≤ 5)
 InRange (Check from count) = IsRange from count
-InRange Tables = Unit {0}
+
+-- the same of a command
+abbrev pub AreInRange : Command → Type 0
+AreInRange Tables = Unit {0}
+AreInRange (Over task) = InRange task
+
+-- ---- how it is read
+
+-- the bet that a word spells
+unfoldable pub coin_of : Word → Option ℕ
+coin_of word = number_within 1 5 word
+
+-- a bet, for this task
+abbrev pub bet : (ℕ → Task) → List Word → Option Task
+bet task (number ∷ []) = option_map task (coin_of number)
+bet task _ = None
+
+-- the place of the first class line that is walked, and how many are
+abbrev pub lines_of : Word → Word → Option Task
+lines_of first second = do
+  from ← number_within 1 200000 first
+  count ← number_within 0 200000 second
+  Some (Check from count)
+
+abbrev pub check : List Word → Option Task
+check (first ∷ second ∷ []) = lines_of first second
+check _ = None
+
+-- the task that a word and its numbers are
+unfoldable pub task_of : Word → List Word → Option Task
+task_of word numbers =
+    if bytes_eq word (codes "deal") then bet Deal numbers
+    else (if bytes_eq word (codes "certify") then bet Certify numbers
+    else (if bytes_eq word (codes "check") then check numbers
+    else None))
+
+-- the command of a word alone
+abbrev pub alone : Word → Option Command
+alone word = if bytes_eq word (codes "tables") then Some Tables else None
+
+-- the command that the words are, if they are one
+unfoldable pub command_of : List Word → Option Command
+command_of [] = None
+command_of (word ∷ []) = alone word
+command_of (word ∷ number ∷ more) = option_map Over (task_of word (number ∷ more))
 
 -- the command reads its input
 abbrev pub reads : Command → Bool
 reads Tables = false
-reads _ = true
+reads (Over task) = true
+
+-- ---- words are a command exactly where they spell it with its numbers in range
+abbrev pub CommandsAreSpelled : Type 0
+CommandsAreSpelled = (words : List Word) (command : Command) → command_of words ≡ Some command ↔ (words ≡ command_words command) × AreInRange command

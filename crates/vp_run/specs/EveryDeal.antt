@@ -1,42 +1,67 @@
--- The answers of `certify` and `check` tell every deal.
+-- What the answers of `deal`, `certify` and `check` tell.
 use Rattle.std.specs.Prelude.{◌≡◌, ℕ, ◌≤◌, List, Some, Ok, length}
 use Rattle.vp_text.specs.Lines.{Word}
 use Rattle.vp_text.specs.Written.{written}
 use Rattle.vp_pay.specs.declared.table.PayTable.{PayTable}
-use Rattle.vp_check.specs.Certificates.{Certificate}
+use Rattle.vp_check.specs.Certificates.{Certificate, IsCertificate}
 use Rattle.vp_check.specs.EveryDeal.{TellsEveryDeal, TellsWalkedDeals}
+use Rattle.vp_check.specs.Truth.{due_certificate}
 use Rattle.vp_check.specs.Spelling.{SpellsCertificate, certificate_text}
-use Rattle.vp_run.specs.Answer.{Answer, answer, certify_input}
+use Rattle.vp_answer.specs.Answers.{Answer}
+use Rattle.vp_run.specs.Answer.{answer}
+use Rattle.vp_run.specs.Certify.{certify_input}
+use Rattle.vp_draws.specs.Draws.{IsPrinted}
 use Rattle.vp_run.specs.Commands.{command_of}
-use Rattle.vp_run.specs.declared.command.Command.TheVariants.{Certify, Check}
-use Rattle.vp_run.specs.declared.status.Status.TheVariants.{Done}
+use Rattle.vp_run.specs.Deal.{Dealt, best_of, deal_input, deal_lines}
+use Rattle.vp_run.specs.declared.command.Command.TheVariants.{Over}
+use Rattle.vp_run.specs.declared.command.Task.TheVariants.{Certify, Check, Deal}
+use Rattle.vp_answer.specs.declared.status.Status.TheVariants.{Done}
 
--- the answer is a certificate of this pay table and this bet, which tells every deal
+-- the answer is the four lines of a hand. The hold that it prints has an expected payment that no other of the 32 holds exceeds, and
+-- its printed value over the common denominator is that payment
+pub record PrintsHold (d : Dealt) (due : Answer) : Type 0 where
+  pub status : due.status ≡ Done
+  pub text : due.text ≡ written (deal_lines d)
+  pub printed : IsPrinted d.table d.coin d.hand (best_of d).mask (best_of d).value
+
+-- the answer of `deal` to each pay table and deal that it takes
+abbrev pub DealsPrintBestHolds : Type 0
+DealsPrintBestHolds = (words : List Word) (coin : ℕ) (bytes : List ℕ) (table : PayTable) (hand : List ℕ)
+    → command_of words ≡ Some (Over (Deal coin)) → deal_input coin bytes ≡ Ok (table, hand)
+    → PrintsHold (record { table = table; coin = coin; hand = hand }) (answer words bytes)
+
+-- the answer is a certificate of this pay table and this bet in the grammar, the due one, which tells every deal
 pub record PrintsAll (table : PayTable) (coin : ℕ) (due : Answer) : Type 0 where
   pub certificate : Certificate
   pub table_is : certificate.table ≡ table
   pub coin_is : certificate.coin ≡ coin
   pub status : due.status ≡ Done
   pub text : due.text ≡ written (certificate_text certificate)
+  pub grammar : IsCertificate certificate
+  pub due_is : certificate ≡ due_certificate table coin
   pub tells : TellsEveryDeal certificate
 
 -- the answer of `certify` to each pay table that it takes
 abbrev pub CertificatesTellEveryDeal : Type 0
 CertificatesTellEveryDeal = (words : List Word) (coin : ℕ) (bytes : List ℕ) (table : PayTable)
-    → command_of words ≡ Some (Certify coin) → certify_input coin bytes ≡ Ok (table, tt) → PrintsAll table coin (answer words bytes)
+    → command_of words ≡ Some (Over (Certify coin)) → certify_input coin bytes ≡ Ok (table, tt) → PrintsAll table coin (answer words bytes)
 
 -- a check of all class lines that finds no broken rule
 abbrev pub ChecksTellEveryDeal : Type 0
 ChecksTellEveryDeal = (words : List Word) (count : ℕ) (bytes : List ℕ) (c : Certificate)
-    → command_of words ≡ Some (Check 1 count) → SpellsCertificate bytes c → length c.classes ≤ count → (answer words bytes).status ≡ Done → TellsEveryDeal c
+    → command_of words ≡ Some (Over (Check 1 count)) → SpellsCertificate bytes c → length c.classes ≤ count → (answer words bytes).status ≡ Done → TellsEveryDeal c
 
 -- a check of some class lines that finds no broken rule
 abbrev pub ChecksTellWalkedDeals : Type 0
 ChecksTellWalkedDeals = (words : List Word) (from count : ℕ) (bytes : List ℕ) (c : Certificate)
-    → command_of words ≡ Some (Check from count) → SpellsCertificate bytes c → (answer words bytes).status ≡ Done → TellsWalkedDeals from count c
+    → command_of words ≡ Some (Over (Check from count)) → SpellsCertificate bytes c → (answer words bytes).status ≡ Done → TellsWalkedDeals from count c
 
--- what `certify` prints is an input of `check`, which finds no broken rule in it, whatever class lines are walked
+-- the answer is an input of `check`, short enough to be read, in which it finds no broken rule, whatever class lines are walked
+pub record IsCheckedWell (printed : List ℕ) : Type 0 where
+  pub short : length printed ≤ 67108864
+  pub well : (words : List Word) (from count : ℕ) → command_of words ≡ Some (Over (Check from count)) → (answer words printed).status ≡ Done
+
+-- what `certify` prints of each pay table that it takes
 abbrev pub CertificatesAreChecked : Type 0
-CertificatesAreChecked = (words others : List Word) (coin from count : ℕ) (bytes : List ℕ) (table : PayTable)
-    → command_of words ≡ Some (Certify coin) → certify_input coin bytes ≡ Ok (table, tt) → command_of others ≡ Some (Check from count)
-    → (answer others (answer words bytes).text).status ≡ Done
+CertificatesAreChecked = (words : List Word) (coin : ℕ) (bytes : List ℕ) (table : PayTable)
+    → command_of words ≡ Some (Over (Certify coin)) → certify_input coin bytes ≡ Ok (table, tt) → IsCheckedWell (answer words bytes).text

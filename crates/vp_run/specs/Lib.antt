@@ -1,12 +1,8 @@
-pub mod StatusCode
 pub mod Commands
-pub mod DealText
-pub mod CheckText
+pub mod Deal
+pub mod Certify
+pub mod Check
 pub mod Answer
-pub mod DealInput
-pub mod CertifyInput
-pub mod CheckInput
 pub mod Memory
-pub mod Outcome
 pub mod Arguments
 pub mod EveryDeal

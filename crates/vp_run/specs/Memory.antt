@@ -1,30 +1,26 @@
 -- How much memory an answer needs beside its input.
-use Rattle.std.specs.Prelude.{ℕ, List, Option, Some, None, Result, Ok, Err}
+use Rattle.std.specs.Prelude.{ℕ, List, Option, Some, None}
 use Rattle.vp_count.specs.Table.{first_word}
-use Rattle.vp_pay.specs.declared.table.PayTable.{PayTable}
-use Rattle.vp_run.specs.Answer.{certify_input, deal_input}
+use Rattle.vp_answer.specs.Answers.{words_read}
+use Rattle.vp_run.specs.Answer.{job_of}
 use Rattle.vp_run.specs.Commands.{command_of}
 use Rattle.vp_run.specs.declared.command.Command.{Command}
-use Rattle.vp_run.specs.declared.command.Command.TheVariants.{Certify, Check, Deal, Tables}
+use Rattle.vp_run.specs.declared.command.Command.TheVariants.{Over, Tables}
+use Rattle.vp_run.specs.declared.job.Job.{Job}
+use Rattle.vp_run.specs.declared.job.Job.TheVariants.{Certify, Checked, Deal}
 
--- `deal` needs a table of sums for the deck of its pay table, and nothing where its input is refused
-abbrev pub deal_words : Result (PayTable × List ℕ) ℕ → ℕ
-deal_words (Ok read) = first_word read.0.deck 6
-deal_words (Err line) = 0
+-- `deal` and `certify` need a table of sums for the deck of their pay table; `check` walks the draws in place
+abbrev pub job_words : Job → ℕ
+job_words (Deal d) = first_word d.table.deck 6
+job_words (Certify s) = first_word s.table.deck 6
+job_words (Checked c) = 0
 
--- so does `certify`
-abbrev pub certify_words : Result (PayTable × Unit {0}) ℕ → ℕ
-certify_words (Ok read) = first_word read.0.deck 6
-certify_words (Err line) = 0
-
--- what a command needs: `check` walks the draws in place, and `tables` reads no input
-abbrev pub command_words : Option Command → List ℕ → ℕ
-command_words None bytes = 0
-command_words (Some Tables) bytes = 0
-command_words (Some (Deal coin)) bytes = deal_words (deal_input coin bytes)
-command_words (Some (Certify coin)) bytes = certify_words (certify_input coin bytes)
-command_words (Some (Check from count)) bytes = 0
+-- what a command needs; `tables` reads no input
+abbrev pub command_room : Option Command → List ℕ → ℕ
+command_room None bytes = 0
+command_room (Some Tables) bytes = 0
+command_room (Some (Over task)) bytes = words_read job_words (job_of task bytes)
 
 -- how many words of 64 bits the answer to these words and this input needs
 unfoldable pub region_words : List (List ℕ) → List ℕ → ℕ
-region_words words bytes = command_words (command_of words) bytes
+region_words words bytes = command_room (command_of words) bytes

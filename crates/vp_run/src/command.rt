@@ -1,14 +1,15 @@
 //! The commands, as the words of the command line spell them.
 
-ghost use Rattle.std.specs.Prelude.{◌≡◌, ◌≤◌, map, IfSome};
-ghost use Rattle.vp_run.specs.Commands.{InRange, bet_command_of, check_of, coin_of, command_of};
+ghost use Rattle.std.specs.Prelude.{◌≡◌, ◌≤◌, ℕ, map, option_map, IfSome};
+ghost use Rattle.vp_run.specs.Commands.{AreInRange, InRange, bet, check, coin_of, command_of, lines_of, task_of};
+ghost use Rattle.vp_run.specs.declared.command.Task.{Task};
 ghost use Rattle.vp_text.specs.Numbers.{number_within};
 
 use vp_text::number;
 
-/// A command with its numbers.
+/// A command that reads an input, with its numbers.
 #[derive(Clone, Copy, Debug, PartialEq, Eq)]
-pub enum Command {
+pub enum Task {
     /// `deal COIN`: the best hold of one deal, for a bet of 1 to 5 coins.
     Deal(u8),
     /// `certify COIN`: the certificate of a pay table, for a bet of 1 to 5 coins.
@@ -16,45 +17,51 @@ pub enum Command {
     /// `check FROM COUNT`: what is wrong with a certificate. The values of COUNT class lines from the place FROM on,
     /// counted from 1, are reckoned again by walking all draws.
     Check { from: u32, count: u32 },
-    /// `tables`: the built-in pay tables. It reads no input.
-    Tables,
 }
 
-impl Command {
-    ghost use Rattle.std.specs.Prelude.{◌≡◌};
-    ghost use Rattle.vp_run.specs.Commands.{reads};
-
-    /// The command reads its input.
-    pub(crate) fn reads(self) -> bool
-        ensures { result ≡ reads self }
-    {
-        !matches!(self, Command::Tables)
-    }
+/// A command.
+#[derive(Clone, Copy, Debug, PartialEq, Eq)]
+pub enum Command {
+    /// `tables`: the built-in pay tables. It reads no input.
+    Tables,
+    /// A command that reads an input.
+    Over(Task),
 }
 
 /// The command that the words are.
 #[tactic(auto, unfolding(crate::specs::Commands::command_of))]
 pub(crate) fn command_of(words: &[&str]) -> Option<Command>
     ensures is { result ≡ command_of (map (λ w. w.now) words.now) }
-    ensures range { IfSome result InRange }
+    ensures range { IfSome result AreInRange }
 {
     match words {
         [word] if *word == "tables" => Some(Command::Tables),
-        [word, number] => bet_command_of(word, number.as_bytes()),
-        [word, from, count] if *word == "check" => check_of(from.as_bytes(), count.as_bytes()),
+        [word, numbers @ ..] if !numbers.is_empty() => task_of(word, numbers).map(Command::Over),
         _ => None,
     }
 }
 
-/// The command of a word and a bet.
-#[tactic(auto, unfolding(crate::specs::Commands::bet_command_of))]
-fn bet_command_of(word: &str, number: &[u8]) -> Option<Command>
-    ensures is { result ≡ bet_command_of word.now number.now }
+/// The task that a word and its numbers are.
+#[tactic(auto, unfolding(crate::specs::Commands::task_of))]
+fn task_of(word: &str, numbers: &[&str]) -> Option<Task>
+    ensures is { result ≡ task_of word.now (map (λ w. w.now) numbers.now) }
     ensures range { IfSome result InRange }
 {
     match word {
-        "deal" => coin_of(number).map(Command::Deal),
-        "certify" => coin_of(number).map(Command::Certify),
+        "deal" => bet(numbers).map(Task::Deal),
+        "certify" => bet(numbers).map(Task::Certify),
+        "check" => lines(numbers),
+        _ => None,
+    }
+}
+
+/// A bet.
+fn bet(numbers: &[&str]) -> Option<u8>
+    ensures is { (task : ℕ → Task) → option_map task result ≡ bet task (map (λ w. w.now) numbers.now) }
+    ensures range { IfSome result (λ coin. (1 ≤ coin) × (coin ≤ 5)) }
+{
+    match numbers {
+        [number] => coin_of(number.as_bytes()),
         _ => None,
     }
 }
@@ -69,15 +76,25 @@ fn coin_of(word: &[u8]) -> Option<u8>
     Some(coin as u8)
 }
 
-/// The check that two words spell.
-#[tactic(auto, unfolding(crate::specs::Commands::check_of))]
-fn check_of(first: &[u8], second: &[u8]) -> Option<Command>
-    ensures is { result ≡ check_of first.now second.now }
+/// Class lines that are walked.
+fn lines(numbers: &[&str]) -> Option<Task>
+    ensures is { result ≡ check (map (λ w. w.now) numbers.now) }
+    ensures range { IfSome result InRange }
+{
+    match numbers {
+        [first, second] => lines_of(first.as_bytes(), second.as_bytes()),
+        _ => None,
+    }
+}
+
+/// The class lines that two words spell.
+fn lines_of(first: &[u8], second: &[u8]) -> Option<Task>
+    ensures is { result ≡ lines_of first.now second.now }
     ensures range { IfSome result InRange }
 {
     let from = number_within(1, 200_000, first)?;
     let count = number_within(0, 200_000, second)?;
-    Some(Command::Check { from, count })
+    Some(Task::Check { from, count })
 }
 
 /// The number from `least` to `most` that a word spells in its decimal digits.

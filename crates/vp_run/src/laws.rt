@@ -1,17 +1,14 @@
 // Laws of the answers.
 ghost use Rattle.vp_run.specs.Answer.{UsageIsForNoCommand};
-ghost use Rattle.vp_run.specs.CertifyInput.{CertifyInputsAreSpelled, CertifyInputsAreRefused};
-ghost use Rattle.vp_run.specs.CheckInput.{CertificatesAreJudged, CheckInputsAreEither, CheckInputsAreRefused};
-ghost use Rattle.vp_run.specs.EveryDeal.{CertificatesAreChecked, CertificatesTellEveryDeal, ChecksTellEveryDeal, ChecksTellWalkedDeals};
-ghost use Rattle.vp_run.specs.DealInput.{DealInputsAreSpelled, DealInputsAreRefused};
-ghost use Rattle.vp_run.specs.Outcome.{EachInputIsServed, WordsAreServed};
+ghost use Rattle.vp_run.specs.Certify.{CertifyInputsAreRead};
+ghost use Rattle.vp_run.specs.Check.{CertificatesAreJudged, CheckInputsAreEither, CheckInputsAreRefused};
+ghost use Rattle.vp_run.specs.Commands.{CommandsAreSpelled};
+ghost use Rattle.vp_run.specs.Deal.{DealInputsAreRead};
+ghost use Rattle.vp_run.specs.EveryDeal.{CertificatesAreChecked, CertificatesTellEveryDeal, ChecksTellEveryDeal, ChecksTellWalkedDeals, DealsPrintBestHolds};
 
-/// Where no read and no write fails, a command that is given an input of at most 64 MiB ends with the status of its
-/// answer, and one that is given more ends with `TooLong`, unless memory runs out. Words that need no input end with
-/// the status of their answer.
-pub fn served_without_fault()
-    ensures inputs { EachInputIsServed }
-    ensures words { WordsAreServed }
+/// Words are a command exactly where they spell it: its name, and its numbers in decimal digits, each in its range.
+pub fn commands_are_spelled()
+    ensures { CommandsAreSpelled }
 {}
 
 /// The line on usage is the answer to words that are no command, whatever the input, and to no others.
@@ -22,15 +19,13 @@ pub fn usage_is_for_no_command()
 /// What `deal` takes for its input is what the lines of the input spell: a valid pay table that has the bet, and then a
 /// deal from its deck, and nothing else. Every other input is refused, exactly at its refused line.
 pub fn deal_inputs_are_read()
-    ensures spelled { DealInputsAreSpelled }
-    ensures refused { DealInputsAreRefused }
+    ensures { DealInputsAreRead }
 {}
 
 /// What `certify` takes for its input is what the lines of the input spell: a valid pay table that has the bet, and
 /// nothing else. Every other input is refused, exactly at its refused line.
 pub fn certify_inputs_are_read()
-    ensures spelled { CertifyInputsAreSpelled }
-    ensures refused { CertifyInputsAreRefused }
+    ensures { CertifyInputsAreRead }
 {}
 
 /// What `check` takes for its input is what the lines of the input spell: a certificate in the grammar, and nothing else.
@@ -39,6 +34,13 @@ pub fn check_inputs_are_read()
     ensures judged { CertificatesAreJudged }
     ensures refused { CheckInputsAreRefused }
     ensures either { CheckInputsAreEither }
+{}
+
+/// The answer of `deal` to each pay table and deal that it takes are four lines that print a best hold: its mask is one of
+/// the 32, its value over the common denominator is its mean payment over all draws, as it is for each of the 32 holds;
+/// none of them is worth more, and each of a smaller mask is worth less.
+pub fn deals_print_best_holds()
+    ensures { DealsPrintBestHolds }
 {}
 
 /// The answer of `certify` to each pay table that it takes is a certificate that tells every deal: each deal of the deck
@@ -54,8 +56,8 @@ pub fn certificates_tell_every_deal()
     ensures walked { ChecksTellWalkedDeals }
 {}
 
-/// What `certify` prints is an input of `check`, which finds no fault with it, whatever class lines are walked.
-#[tactic(auto, using(crate::proofs::EveryDeals::certificates_checked))]
+/// What `certify` prints is an input of `check`, short enough to be read, with which it finds no fault, whatever class
+/// lines are walked.
 pub fn certificates_are_checked()
     ensures { CertificatesAreChecked }
 {}

@@ -2,32 +2,25 @@
 #![tactic(auto)]
 
 mod arguments;
-mod certificate;
-mod certify_input;
-mod check_text;
+mod certify;
+mod check;
 mod command;
-mod deal_input;
-mod deal_text;
+mod deal;
+mod job;
 mod laws;
 mod serve;
-mod status;
-mod tables_text;
+mod tables;
 mod top;
 
 pub use arguments::run;
 pub use laws::{
     certificates_are_checked, certificates_tell_every_deal, certify_inputs_are_read,
-    check_inputs_are_read, deal_inputs_are_read, served_without_fault, usage_is_for_no_command,
+    check_inputs_are_read, commands_are_spelled, deal_inputs_are_read, deals_print_best_holds,
+    usage_is_for_no_command,
 };
 pub use serve::{region_words, served};
-pub use status::Status;
-pub use top::vpoker;
+pub use top::{vpoker, vpoker_in_blocks};
+pub use vp_answer::Status;
 
-#[cfg(test)]
-mod certify_tests;
-#[cfg(test)]
-mod check_tests;
-#[cfg(test)]
-mod test_tables;
 #[cfg(test)]
 mod tests;

@@ -1,0 +1,49 @@
+-- No answer is empty.
+use Rattle.std.proofs.Common.{◌≡◌, ℕ, ◌<◌, List, [], ◌∷◌, ◌++◌, length, arith, length-append, Option, Some, None, Result, Ok, Err}
+use Rattle.std.specs.Prelude.{codes, map}
+use Rattle.vp_card.specs.Texts.{card_text}
+use Rattle.vp_text.specs.Written.{line_of, spaced, written}
+use Rattle.vp_check.specs.Spelling.{certificate_text}
+use Rattle.vp_check.specs.Truth.{due_certificate}
+use Rattle.vp_pay.specs.BuiltIn.{built_in}
+use Rattle.vp_pay.specs.Spelling.{table_text}
+use Rattle.vp_answer.specs.Answers.{answer_read, finding_words}
+use Rattle.vp_answer.specs.declared.stop.Stop.{Stop}
+use Rattle.vp_answer.specs.declared.stop.Stop.TheVariants.{Finding, Refused}
+use Rattle.vp_run.specs.Answer.{answer, answer_to, built_in_text, job_of, job_text, tables_answer, usage}
+use Rattle.vp_run.specs.Check.{checked_lines}
+use Rattle.vp_run.specs.Commands.{command_of}
+use Rattle.vp_run.specs.declared.command.Command.{Command}
+use Rattle.vp_run.specs.declared.command.Command.TheVariants.{Over, Tables}
+use Rattle.vp_run.specs.declared.job.Job.{Job}
+use Rattle.vp_run.specs.declared.job.Job.TheVariants.{Certify, Checked, Deal}
+
+front_some : (front back : List ℕ) → 0 < length front → 0 < length (front ++ back)
+front_some front back some = omega (arith, length-append front back)
+
+-- a line for each job
+job_some : (job : Job) → 0 < length (job_text job)
+unfolding certificate_text table_text checked_lines
+job_some (Deal d) = front_some (line_of (codes "deal" ∷ map card_text d.hand)) _ (omega (arith, length-append (spaced (codes "deal" ∷ map card_text d.hand)) (10 ∷ [])))
+job_some (Certify s) = omega arith
+job_some (Checked c) = omega arith
+
+read_some : (read : Result Job Stop) → 0 < length (answer_read job_text read).text
+unfolding finding_words
+read_some (Ok job) = job_some job
+read_some (Err (Refused line)) = omega arith
+read_some (Err (Finding at rule said due)) = omega arith
+
+first_some : 0 < length (built_in_text 0)
+unfolding table_text
+first_some = omega arith
+
+to_some : (command : Option Command) (bytes : List ℕ) → 0 < length (answer_to command bytes).text
+unfolding usage tables_answer
+to_some None bytes = omega arith
+to_some (Some (Over task)) bytes = read_some (job_of task bytes)
+to_some (Some Tables) bytes = front_some (built_in_text 0) (built_in_text 1 ++ (built_in_text 2 ++ built_in_text 3)) first_some
+
+pub answer_some : (words : List (List ℕ)) (bytes : List ℕ) → 0 < length (answer words bytes).text
+unfolding answer
+answer_some words bytes = to_some (command_of words) bytes

@@ -1,0 +1,68 @@
+-- `deal`: what its input says, what it prints, and what that tells.
+use Rattle.std.specs.Prelude.{◌≡◌, ℕ, ◌*◌, ◌<◌, ◌≤◌, true, nat_le, Bool, List, [], ◌∷◌, ◌++◌, Result, codes, length, map}
+use Rattle.std.specs.Fmt.{decimal}
+use Rattle.vp_card.specs.Cards.{IsHand, held, in_deck, in_order}
+use Rattle.vp_card.specs.Texts.{card_text}
+use Rattle.vp_text.specs.Lines.{Word}
+use Rattle.vp_text.specs.Sections.{Text}
+use Rattle.vp_pay.specs.Bets.{IsBet}
+use Rattle.vp_pay.specs.Deal.{AreDealtCards}
+use Rattle.vp_pay.specs.Sections.{hand_at}
+use Rattle.vp_pay.specs.Spelling.{deal_text}
+use Rattle.vp_pay.specs.declared.table.PayTable.{PayTable}
+use Rattle.vp_sets.specs.Draws.{common}
+use Rattle.vp_draws.specs.Draws.{best, least_best, ties, value}
+use Rattle.vp_draws.specs.declared.best.Best.{Best}
+use Rattle.vp_answer.specs.Inputs.{AreRead, RefusesSection, SpellsSection, section_input}
+
+-- the table has a column for a bet of at least 1
+abbrev pub has_bet : ℕ → PayTable → Bool
+has_bet coin table = nat_le coin table.coins
+
+-- what an input of `deal` says: a pay table that has the bet, then a hand from its deck, and nothing else; or the line where it is refused
+abbrev pub deal_input : ℕ → List ℕ → Result (PayTable × List ℕ) ℕ
+deal_input coin bytes = section_input (has_bet coin) (λ table. hand_at table.deck) bytes
+
+-- a bet on a pay table, and a hand
+pub record Dealt : Type 0 where
+  pub table : PayTable
+  pub coin : ℕ
+  pub hand : List ℕ
+
+-- the hand is of the table's deck
+pub record IsDealt (d : Dealt) : Type 0 where
+  pub bet : IsBet d.table d.coin
+  pub hand : IsHand d.hand
+  pub deck : in_deck d.table.deck d.hand ≡ true
+
+-- a fraction: a number, `/` and the number that it stands over
+abbrev pub fraction : ℕ → ℕ → List Word
+fraction over under = decimal over ∷ codes "/" ∷ decimal under ∷ []
+
+-- the lines of a hand, out of its best hold, the value of holding all five, and the number that values stand over: its cards, rising;
+-- the best mask, the cards that it holds and its value; the value of holding all five; how many holds are as good
+abbrev pub figure_lines : List ℕ → Best × ℕ × ℕ → Text
+figure_lines hand (best, pat, under) =
+    (codes "deal" ∷ map card_text hand) ∷
+    (codes "best" ∷ decimal best.mask ∷ map card_text (held best.mask hand) ++ fraction best.value under) ∷
+    (codes "pat" ∷ fraction pat under) ∷
+    (codes "ties" ∷ decimal best.ties ∷ []) ∷ []
+
+-- the least best hold of a hand, its value, and how many holds are as good
+abbrev pub best_of : Dealt → Best
+best_of d = record { mask = least_best d.table d.coin d.hand; value = best d.table d.coin d.hand; ties = ties d.table d.coin d.hand }
+
+-- all values stand over the common denominator of the deck
+unfoldable pub figures : Dealt → Best × ℕ × ℕ
+figures d = (best_of d, value d.table d.coin d.hand 31, common d.table.deck)
+
+-- what `deal` prints
+abbrev pub deal_lines : Dealt → Text
+deal_lines d = figure_lines d.hand (figures d)
+
+-- a pay table that has the bet, and a deal of its deck, whose cards are seen in rising order
+abbrev pub DealInputsAreRead : Type 0
+DealInputsAreRead = (coin : ℕ)
+    → AreRead (deal_input coin)
+    (SpellsSection (has_bet coin) deal_text (λ t. AreDealtCards t.deck) in_order)
+    (RefusesSection (has_bet coin) deal_text (λ t. AreDealtCards t.deck))
