@@ -15,9 +15,9 @@ const REFUSED_ARGUMENTS: u8 = 8;
 
 fn main(rt: HostRuntime) -> ExitCode {
     let mut source = RealSource::new(rt.stdin());
-    let mut sink = RealSink::new(rt.stdout());
+    let sink = RealSink::new(rt.stdout());
     let code = match env::args(&rt) {
-        Ok(arguments) => run(rt.alloc(), arguments, &mut source, &mut sink),
+        Ok(arguments) => run(rt.alloc(), arguments, &mut source, sink).0,
         Err(error) => code_of_refusal(error.kind()),
     };
     ExitCode::from(code)
