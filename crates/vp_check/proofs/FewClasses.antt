@@ -6,7 +6,8 @@ use Rattle.std.proofs.lemmas.List.Elements.{recursion_from_All}
 use Rattle.std.proofs.lemmas.List.Sums.{sum_by-cons}
 use Rattle.vp_card.specs.Cards.{IsDeck}
 use Rattle.vp_sets.specs.Sets.{choose}
-use Rattle.vp_sets.proofs.Binomials.{choose-zero, choose_times}
+use Rattle.vp_sets.proofs.Binomials.{choose-suc}
+use Rattle.vp_sets.proofs.Pascal.{ways_are}
 use Rattle.vp_suit.specs.Classes.{IsDeal, is_representative, representatives, weight}
 use Rattle.vp_suit.specs.Heaps.{card_heap, heap}
 use Rattle.vp_suit.proofs.Below.{below, below-plus, below-suc, below-times, below-zero}
@@ -159,22 +160,17 @@ four_classes n most =
     let each : below (λ i. 4 * one i) N ≤ below (λ i. weighs i + three i) N = below_le (λ i. 4 * one i) (λ i. weighs i + three i) N (λ i l. each_weighs n i most) in
     omega (arith, many, whole, each, below-times 4 one N, below-plus weighs three N, threes (choose 52 5) N)
 
-deals_52 : choose 52 5 ≡ 2598960
-deals_52 = omega (arith, choose-zero 52, choose_times 52 0, choose_times 52 1, choose_times 52 2, choose_times 52 3, choose_times 52 4)
+-- more things give no fewer choices
+choose_up : (n m k : ℕ) → n ≤ m → choose n (suc k) ≤ choose m (suc k)
+choose_up n zero k l = let z : n ≡ 0 = omega arith in rw z (omega arith)
+choose_up n (suc m) k l = elim (cases_lt m n) [
+  | inl h ↦ let same : n ≡ suc m = omega arith in rw same (omega arith)
+  | inr h ↦ omega (arith, choose-suc m k, choose_up n m k h)
+]
 
-deals_53 : choose 53 5 ≡ 2869685
-deals_53 = omega (arith, choose-zero 53, choose_times 53 0, choose_times 53 1, choose_times 53 2, choose_times 53 3, choose_times 53 4)
-
-deals_54 : choose 54 5 ≡ 3162510
-deals_54 = omega (arith, choose-zero 54, choose_times 54 0, choose_times 54 1, choose_times 54 2, choose_times 54 3, choose_times 54 4)
-
--- there are fewer classes than that
+-- in no deck are there more
 pub few_classes : (n : ℕ) → IsDeck n → length (representatives n) ≤ 1213290
 few_classes n is =
-    elim (cases_lt n 53) [
-      | inl l ↦ let same : 52 ≡ n = omega (arith, is.0) in subst (λ k. length (representatives k) ≤ 1213290) same (omega (arith, four_classes 52 (lit≤ tt), deals_52))
-      | inr l ↦ elim (cases_lt n 54) [
-        | inl k ↦ let same : 53 ≡ n = omega arith in subst (λ k. length (representatives k) ≤ 1213290) same (omega (arith, four_classes 53 (lit≤ tt), deals_52, deals_53))
-        | inr k ↦ let same : 54 ≡ n = omega (arith, is.1) in subst (λ k. length (representatives k) ≤ 1213290) same (omega (arith, four_classes 54 (lit≤ tt), deals_52, deals_54))
-      ]
-    ]
+    let natural : choose 52 5 ≡ 2598960 = sym (ways_are 52 5 (lit≤ tt) (lit≤ tt)) in
+    let greatest : choose 54 5 ≡ 3162510 = sym (ways_are 54 5 (lit≤ tt) (lit≤ tt)) in
+    omega (arith, four_classes n is.0, natural, greatest, choose_up n 54 4 is.1)
