@@ -143,8 +143,8 @@ seen_err see (Ok v) line e = absurd cc
 seen_err {A} {B} {C} see (Err n) line e = ap (λ (k : ℕ). Err k) (err_is {A = A × B} n line e)
 
 -- a section whose reader is exact, seen otherwise
-pub section_read : {B C : Type 0} (fits : PayTable → Bool) (spell : C → Text) (Valid : PayTable → C → Type 0) (see : C → B) (as_seen : PayTable → Reader B) (reader : PayTable → Reader C)
-    → ((t : PayTable) → IsTable t → Exact spell (Valid t) (reader t)) → ((t : PayTable) (feed : Feed) → as_seen t feed ≡ mapped see (reader t) feed)
+pub section_read : {B C : Type 0} (fits : PayTable → Bool) (spell : PayTable → C → Text) (Valid : PayTable → C → Type 0) (see : C → B) (as_seen : PayTable → Reader B) (reader : PayTable → Reader C)
+    → ((t : PayTable) → IsTable t → Exact (spell t) (Valid t) (reader t)) → ((t : PayTable) (feed : Feed) → as_seen t feed ≡ mapped see (reader t) feed)
     → AreRead (section_input fits as_seen) (SpellsSection fits spell Valid see) (RefusesSection fits spell Valid)
 unfolding section_input seen
 section_read {B} {C} fits spell Valid see as_seen reader exact is =
@@ -153,12 +153,12 @@ section_read {B} {C} fits spell Valid see as_seen reader exact is =
     record {
       spelled = λ bytes read. (
         λ e. let from = seen_ok see (said bytes) read (sym (same bytes) ∙ e) in
-            (from.said, fitted_found table_text IsTable fits table_at (λ (t : PayTable). spell) Valid reader Exact-table exact (feed_of bytes) (read.0, from.said) from.is, from.seen_is),
-        λ (c, accepted, seen_is). same bytes ∙ (ap (seen see) (fitted_again table_text IsTable fits table_at (λ (t : PayTable). spell) Valid reader Exact-table exact (feed_of bytes) (read.0, c) accepted) ∙ ap (λ (b : B). Ok (read.0, b)) (sym seen_is)),
+            (from.said, fitted_found table_text IsTable fits table_at spell Valid reader Exact-table exact (feed_of bytes) (read.0, from.said) from.is, from.seen_is),
+        λ (c, accepted, seen_is). same bytes ∙ (ap (seen see) (fitted_again table_text IsTable fits table_at spell Valid reader Exact-table exact (feed_of bytes) (read.0, c) accepted) ∙ ap (λ (b : B). Ok (read.0, b)) (sym seen_is)),
       );
       refused = λ bytes line. (
-        λ e. fitted_stops table_text IsTable fits table_at (λ (t : PayTable). spell) Valid reader Exact-table exact (feed_of bytes) line (seen_err see (said bytes) line (sym (same bytes) ∙ e)),
-        λ refuses. same bytes ∙ ap (seen see) (fitted_refused table_text IsTable fits table_at (λ (t : PayTable). spell) Valid reader Exact-table exact (feed_of bytes) line refuses),
+        λ e. fitted_stops table_text IsTable fits table_at spell Valid reader Exact-table exact (feed_of bytes) line (seen_err see (said bytes) line (sym (same bytes) ∙ e)),
+        λ refuses. same bytes ∙ ap (seen see) (fitted_refused table_text IsTable fits table_at spell Valid reader Exact-table exact (feed_of bytes) line refuses),
       );
     }
 
@@ -166,4 +166,4 @@ deal_exact : (pays : PayTable) → IsTable pays → Exact deal_text (AreDealtCar
 deal_exact pays table = Exact-deal pays.deck table.known_deck
 
 pub hands_read : HandsAreRead
-hands_read fits = section_read fits deal_text (λ t. AreDealtCards t.deck) in_order (λ t. hand_at t.deck) (λ t. deal_at t.deck) deal_exact (λ t feed. hand_at-is t.deck feed)
+hands_read fits = section_read fits (λ t. deal_text) (λ t. AreDealtCards t.deck) in_order (λ t. hand_at t.deck) (λ t. deal_at t.deck) deal_exact (λ t feed. hand_at-is t.deck feed)

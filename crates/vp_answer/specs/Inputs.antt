@@ -38,14 +38,14 @@ TablesAreRead = (fits : PayTable → Bool) → AreRead (table_input fits) (Spell
 unfoldable pub section_input : {B : Type 0} → (PayTable → Bool) → (PayTable → Reader B) → List ℕ → Result (PayTable × B) ℕ
 section_input fits reader bytes = whole (fitting fits table_at reader) (feed_of bytes)
 
--- the section is spelled so, and is seen so
-abbrev pub SpellsSection : {B C : Type 0} → (PayTable → Bool) → (C → Text) → (PayTable → C → Type 0) → (C → B) → List ℕ → PayTable × B → Type 0
+-- the section is spelled so behind its table, and is seen so
+abbrev pub SpellsSection : {B C : Type 0} → (PayTable → Bool) → (PayTable → C → Text) → (PayTable → C → Type 0) → (C → B) → List ℕ → PayTable × B → Type 0
 SpellsSection {C = C} fits spell Valid see bytes read =
-    (said : C) × AcceptedInput table_text IsTable fits (λ (t : PayTable). spell) Valid (feed_of bytes) (read.0, said) × (read.1 ≡ see said)
+    (said : C) × AcceptedInput table_text IsTable fits spell Valid (feed_of bytes) (read.0, said) × (read.1 ≡ see said)
 
-abbrev pub RefusesSection : {C : Type 0} → (PayTable → Bool) → (C → Text) → (PayTable → C → Type 0) → List ℕ → ℕ → Type 0
-RefusesSection fits spell Valid bytes line = RefusedInput table_text IsTable fits (λ (t : PayTable). spell) Valid (feed_of bytes) line
+abbrev pub RefusesSection : {C : Type 0} → (PayTable → Bool) → (PayTable → C → Text) → (PayTable → C → Type 0) → List ℕ → ℕ → Type 0
+RefusesSection fits spell Valid bytes line = RefusedInput table_text IsTable fits spell Valid (feed_of bytes) line
 
 -- the section is a deal of the table's deck, seen in rising order
 abbrev pub HandsAreRead : Type 0
-HandsAreRead = (fits : PayTable → Bool) → AreRead (section_input fits (λ t. hand_at t.deck)) (SpellsSection fits deal_text (λ t. AreDealtCards t.deck) in_order) (RefusesSection fits deal_text (λ t. AreDealtCards t.deck))
+HandsAreRead = (fits : PayTable → Bool) → AreRead (section_input fits (λ t. hand_at t.deck)) (SpellsSection fits (λ t. deal_text) (λ t. AreDealtCards t.deck) in_order) (RefusesSection fits (λ t. deal_text) (λ t. AreDealtCards t.deck))

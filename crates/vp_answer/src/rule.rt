@@ -19,6 +19,22 @@ pub enum Rule {
     Sum,
     /// The denominator is the number of deals, times the common denominator of the deck, times the bet.
     Denominator,
+    /// A game's bet is one that the pay table has.
+    Bet,
+    /// A game's bet is at most the credits before it.
+    Funds,
+    /// The dealt cards of a game differ.
+    Deal,
+    /// The held cards of a game are dealt, and differ.
+    Hold,
+    /// Held and drawn cards of a game are five.
+    Count,
+    /// The drawn cards of a game were not dealt, and differ.
+    Draw,
+    /// A game's pay is the payment of its held and drawn cards.
+    Pay,
+    /// A game's credits are those before it, less the bet, plus the pay.
+    Credits,
 }
 
 impl Rule {
@@ -38,6 +54,14 @@ impl Rule {
             Rule::Cover => b"cover",
             Rule::Sum => b"sum",
             Rule::Denominator => b"denominator",
+            Rule::Bet => b"bet",
+            Rule::Funds => b"funds",
+            Rule::Deal => b"deal",
+            Rule::Hold => b"hold",
+            Rule::Count => b"count",
+            Rule::Draw => b"draw",
+            Rule::Pay => b"pay",
+            Rule::Credits => b"credits",
         }
     }
 }

@@ -64,5 +64,5 @@ deal_lines d = figure_lines d.hand (figures d)
 abbrev pub DealInputsAreRead : Type 0
 DealInputsAreRead = (coin : ℕ)
     → AreRead (deal_input coin)
-    (SpellsSection (has_bet coin) deal_text (λ t. AreDealtCards t.deck) in_order)
-    (RefusesSection (has_bet coin) deal_text (λ t. AreDealtCards t.deck))
+    (SpellsSection (has_bet coin) (λ t. deal_text) (λ t. AreDealtCards t.deck) in_order)
+    (RefusesSection (has_bet coin) (λ t. deal_text) (λ t. AreDealtCards t.deck))
