@@ -1,7 +1,7 @@
 -- The settled order, exchange by exchange.
-use Rattle.std.proofs.Common.{◌≡◌, ℕ, zero, suc, ◌+◌, ◌-◌, ◌<◌, ◌≤◌, Bool, false, List, length, Option, Some, None, refl, arith, add-one}
+use Rattle.std.proofs.Common.{◌≡◌, ℕ, zero, suc, ◌-◌, ◌<◌, Bool, false, List, length, Option, Some, None, refl, arith, add-one}
 use Rattle.std.proofs.lemmas.Bool.{ltb-true, lt-ltb, le-ltb}
-use Rattle.vp_compile.specs.Rows.{Row, order_loss}
+use Rattle.vp_compile.specs.Rows.{Row}
 use Rattle.vp_compile.specs.Orders.{exchange, lowers, first_place, first_lower, settled, IsSettled}
 use Rattle.vp_compile.specs.Laws.{AreFirstLower}
 use Rattle.vp_compile.proofs.FirstLower.{none_at_first, none_more, found, first_passes, settled_goes, settled_stays}

@@ -1,6 +1,6 @@
-use Rattle.std.proofs.Common.{◌≡◌, ℕ, ◌+◌, ◌<◌, length, true, false, arith, rules, subst, sym, ◌∙◌, refl, inl, inr}
+use Rattle.std.proofs.Common.{◌≡◌, true, false, arith, rules, subst, sym, ◌∙◌, refl, inl, inr}
 use Rattle.std.proofs.lemmas.Bool.{cases_lt, false≢true}
-use Rattle.vp_compile.specs.Rows.{Row, IsRow}
+use Rattle.vp_compile.specs.Rows.{IsRow}
 use Rattle.vp_compile.specs.Matrices.{row_of}
 use Rattle.vp_compile.proofs.Places.{row_read, rows_each, row_within}
 use Rattle.vp_compile.proofs.matrix.are_rows.Goals as goal
