@@ -1,0 +1,8 @@
+use Rattle.vp_compile.proofs.Settled.{settled_stay, first_are_exchanged}
+use Rattle.vp_compile.proofs.laws.orders_settle.Goals as goal
+
+pub returns-clause-stay : goal.returns-clause-stay
+returns-clause-stay c = settled_stay
+
+pub returns-clause-exchanged : goal.returns-clause-exchanged
+returns-clause-exchanged c = first_are_exchanged

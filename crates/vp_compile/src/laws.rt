@@ -1,0 +1,14 @@
+//! Laws of matrices and orders, each the contract of a function that does nothing.
+
+ghost use Rattle.vp_compile.specs.Laws.{CellsStandByClass, FirstAreExchanged, SettledStay};
+
+/// A law, for proofs: where the cell of a class and a rule stands.
+pub fn cells_stand_by_class()
+    ensures { CellsStandByClass }
+{}
+
+/// A law, for proofs: the settled order, one exchange after another.
+pub fn orders_settle()
+    ensures stay { SettledStay }
+    ensures exchanged { FirstAreExchanged }
+{}
