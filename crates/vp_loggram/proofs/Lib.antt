@@ -1,0 +1,2 @@
+pub mod Event_lines
+pub mod Games_grammar
