@@ -1,6 +1,6 @@
 -- What a log says, and which logs are in the grammar.
 use Rattle.std.specs.Prelude.{◌≡◌, ℕ, ◌≤◌, ◌<◌, ◌^◌, Bool, true, ◌&&◌, List, length}
-use Rattle.std.specs.List.{All}
+use Rattle.std.specs.List.{AllByRecursion}
 use Rattle.vp_card.specs.Cards.{in_deck}
 use Rattle.vp_loggram.specs.declared.event.Event.{Event}
 
@@ -26,4 +26,4 @@ pub record IsEvent (n : ℕ) (e : Event) : Type 0 where
 -- a log in the grammar, with cards of a deck of n
 pub record IsLog (n : ℕ) (log : LogValue) : Type 0 where
   pub start : log.start ≤ 1000000000000
-  pub events : All (IsEvent n) log.events
+  pub events : AllByRecursion (IsEvent n) log.events

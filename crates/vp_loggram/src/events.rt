@@ -35,6 +35,7 @@ impl<'a> Events<'a> {
     }
 
     /// The next game. It is `None` exactly behind the last.
+    #[tactic(auto, unfolding(crate::specs::Sections::events_in_front))]
     pub fn next(&mut self) -> Option<Event>
         ensures given { self.old ≡ option_to_list result ++ self.new }
         ensures end { IfNone result (self.old ≡ []) }

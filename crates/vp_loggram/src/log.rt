@@ -1,6 +1,6 @@
 //! A log, which borrows its text.
 
-ghost use Rattle.std.specs.Prelude.{◌≡◌, ◌≤◌, ◌×◌, length, codes, is_some, Ok, IfOk, IfErr};
+ghost use Rattle.std.specs.Prelude.{◌≡◌, ◌≤◌, length, codes, is_some, Ok, IfOk, IfErr};
 ghost use Rattle.vp_card.specs.Cards.{IsDeck};
 ghost use Rattle.vp_text.specs.Lines.{Feed};
 ghost use Rattle.vp_text.specs.Numbers.{number_within};
@@ -117,6 +117,7 @@ impl<'a> Log<'a> {
     }
 
     /// The games, in their order.
+    #[tactic(auto, using(crate::proofs::Few_events::few_events))]
     pub fn events(&self) -> Events<'a>
         ensures value { result ≡ self.now.events }
         // A text has no more games than the bytes that an input may have.
