@@ -1,0 +1,5 @@
+pub mod Holds
+pub mod Lists
+pub mod Reading
+pub mod Spelling
+pub mod Valid
