@@ -1,5 +1,7 @@
+pub mod ByCounts
 pub mod Holds
 pub mod Lists
+pub mod Matching
 pub mod Reading
 pub mod Spelling
 pub mod Valid

@@ -3,11 +3,18 @@
 
 mod except_words;
 mod exceptions;
+mod held;
+mod laws;
 mod list;
+mod matching;
 mod pool;
 mod rule;
+#[cfg(test)]
+mod tests;
 
 pub use exceptions::Exceptions;
+pub use laws::rules_are_kept_by_turns;
 pub use list::List;
+pub use matching::{Holds, matches};
 pub use pool::Pool;
 pub use rule::{Rule, Test};
