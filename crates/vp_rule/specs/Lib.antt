@@ -1,4 +1,5 @@
 pub mod Holds
+pub mod Kept
 pub mod Lists
 pub mod Reading
 pub mod Spelling

@@ -5,7 +5,14 @@ mod except_words;
 mod exceptions;
 mod list;
 mod pool;
+mod reading;
 mod rule;
+mod rule_words;
+mod test_words;
+mod writing;
+
+#[cfg(test)]
+mod tests;
 
 pub use exceptions::Exceptions;
 pub use list::List;
