@@ -8,7 +8,12 @@ mod laws;
 mod list;
 mod matching;
 mod pool;
+mod reading;
 mod rule;
+mod rule_words;
+mod test_words;
+mod writing;
+
 #[cfg(test)]
 mod tests;
 

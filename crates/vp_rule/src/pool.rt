@@ -7,7 +7,7 @@ use arrayvec::ArrayVec;
 use std::marker::Model;
 
 /// A pool: the rules that a list is made of.
-#[derive(Debug, PartialEq, Eq, Drop)]
+#[derive(Debug, Drop)]
 pub struct Pool {
     version: u8,
     rules: ArrayVec<Rule, 64>,

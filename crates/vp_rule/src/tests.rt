@@ -1,3 +1,5 @@
-//! Tests.
+//! Lists and pools that are read and refused, rules that are written as they were read, and rules asked of holds.
 
 mod matching;
+mod reading;
+mod writing;
