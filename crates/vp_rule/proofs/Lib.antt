@@ -1,0 +1,3 @@
+pub mod CardsGrammar
+pub mod HeldRight
+pub mod TurnedRules

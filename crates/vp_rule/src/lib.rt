@@ -1,0 +1,25 @@
+//! The language of strategy lists: rules, the tests that they ask of a hold, lists with exceptions, and pools of rules.
+#![tactic(auto)]
+
+mod except_words;
+mod exceptions;
+mod held;
+mod laws;
+mod list;
+mod matching;
+mod pool;
+mod reading;
+mod rule;
+mod rule_words;
+mod test_words;
+mod writing;
+
+#[cfg(test)]
+mod tests;
+
+pub use exceptions::Exceptions;
+pub use laws::rules_are_kept_by_turns;
+pub use list::List;
+pub use matching::{Holds, matches};
+pub use pool::Pool;
+pub use rule::{Rule, Test};
