@@ -1,5 +1,5 @@
 -- What cards, sets of ranks, hands and masks mean, over numbers.
-use Rattle.std.specs.Prelude.{◌≡◌, ℕ, ◌≤◌, ◌/◌, ◌%◌, Bool, true, cond, if◌then◌else◌, not, ◌&&◌, ◌==◌, nat_lt, List, [], ◌∷◌, length}
+use Rattle.std.specs.Prelude.{◌≡◌, ℕ, ◌≤◌, ◌/◌, ◌%◌, Bool, true, cond, if◌then◌else◌, not, ◌&&◌, ◌==◌, nat_le, nat_lt, Option, Some, None, List, [], ◌∷◌, length}
 use Rattle.std.specs.List.{list_all}
 use Rattle.std.specs.List.Sorted.{IsStrictlyIncreasing}
 use Rattle.std.specs.Int.{bit_at}
@@ -7,6 +7,10 @@ use Rattle.std.specs.Int.{bit_at}
 -- the number of cards of a deck: the 52 natural cards, and none, one or two jokers
 abbrev pub IsDeck : ℕ → Type 0
 IsDeck n = (52 ≤ n) × (n ≤ 54)
+
+-- the test of IsDeck
+abbrev pub is_deck : ℕ → Bool
+is_deck n = nat_le 52 n && nat_le n 54
 
 -- the rank of a card, from 0 for a two to 12 for an ace; a joker has rank 13
 abbrev pub rank : ℕ → ℕ
@@ -27,6 +31,16 @@ is_rank_set set = nat_lt 0 set && nat_lt set 8192
 -- every card is of the deck of n cards
 abbrev pub in_deck : ℕ → List ℕ → Bool
 in_deck n cards = list_all (λ card. nat_lt card n) cards
+
+-- each card is above the card before
+abbrev pub rises : List ℕ → Bool
+rises [] = true
+rises (card ∷ []) = true
+rises (card ∷ next ∷ cards) = nat_lt card next && rises (next ∷ cards)
+
+-- these cards, where they rise and are of the deck of n cards
+abbrev pub rising_of : ℕ → List ℕ → Option (List ℕ)
+rising_of n cards = if rises cards && in_deck n cards then Some cards else None
 
 -- five different cards in rising order
 pub record IsHand (cards : List ℕ) : Type 0 where

@@ -1,7 +1,7 @@
 //! A card: its number.
 
 ghost use Rattle.std.specs.Prelude.{◌≡◌, ◌↔◌, ℕ, ◌<◌, Some, None, IfSome, IsTrue, if◌then◌else◌, nat_lt};
-ghost use Rattle.vp_card.specs.Cards.{IsDeck, in_deck};
+ghost use Rattle.vp_card.specs.Cards.{IsDeck, is_deck, in_deck};
 ghost use Rattle.vp_card.specs.Texts.{card_text};
 ghost use Rattle.vp_card.specs.Reading.{card_of};
 
@@ -98,7 +98,8 @@ fn card_of(text: &[u8]) -> Option<Card>
 
 /// Whether there is a deck of so many cards: the 52 natural cards, these and the joker `Jo`, or these and both jokers.
 pub fn is_deck(cards: u8) -> bool
-    ensures { IsTrue result ↔ IsDeck cards }
+    ensures value { result ≡ is_deck cards }
+    ensures deck { IsTrue result ↔ IsDeck cards }
 {
     (52..=54).contains(&cards)
 }

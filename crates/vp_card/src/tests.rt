@@ -2,7 +2,7 @@
 
 use crate::{
     Card, Hand, RankSet, card_texts_differ, in_deck, is_deck, rank_letter, rank_of,
-    rank_set_texts_differ,
+    rank_set_texts_differ, rising_hand,
 };
 use std::test::Fail;
 
@@ -93,16 +93,28 @@ fn cards_of(texts: [&[u8]; 5]) -> Option<[Card; 5]> {
 
 #[test]
 fn hands_and_decks(rt: HostRuntime) -> Result<(), Fail> {
-    let hands: [([&[u8]; 5], [u8; 5]); 3] = [
-        ([b"4s", b"Ts", b"Qs", b"Ks", b"As"], [11, 35, 43, 47, 51]),
-        ([b"As", b"Ks", b"4s", b"Ts", b"Qs"], [11, 35, 43, 47, 51]),
-        ([b"Jk", b"2c", b"Jo", b"As", b"2d"], [0, 1, 51, 52, 53]),
+    let hands: [([&[u8]; 5], [u8; 5], bool); 3] = [
+        (
+            [b"4s", b"Ts", b"Qs", b"Ks", b"As"],
+            [11, 35, 43, 47, 51],
+            true,
+        ),
+        (
+            [b"As", b"Ks", b"4s", b"Ts", b"Qs"],
+            [11, 35, 43, 47, 51],
+            false,
+        ),
+        (
+            [b"Jk", b"2c", b"Jo", b"As", b"2d"],
+            [0, 1, 51, 52, 53],
+            false,
+        ),
     ];
-    for (texts, numbers) in hands {
-        let hand = cards_of(texts)
-            .and_then(Hand::of)
-            .ok_or("five different cards")?;
+    for (texts, numbers, rising) in hands {
+        let cards = cards_of(texts).ok_or("five cards")?;
+        let hand = Hand::of(cards).ok_or("five different cards")?;
         assert_eq!(rt; hand.numbers(), numbers);
+        assert!(rt; rising_hand(cards, 54) == rising.then_some(hand));
         let [first, second, .., last] = numbers;
         assert!(rt; hand.held(0).is_empty() && hand.held(31).len() == 5);
         let two: Option<[u8; 2]> = match hand.held(17).as_slice() {
@@ -132,6 +144,7 @@ fn hands_and_decks(rt: HostRuntime) -> Result<(), Fail> {
     ] {
         assert!(rt; is_deck(deck) == is_one, "a deck of {deck}");
         assert!(rt; in_deck(&jokers, deck) == both, "a deck of {deck}");
+        assert!(rt; rising_hand(jokers, deck).is_some() == both);
     }
     Ok(())
 }

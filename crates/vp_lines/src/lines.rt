@@ -13,7 +13,7 @@ use vp_io::{Sink, WriteFault, put};
 use vp_text::Out;
 
 /// Appends the text of a card.
-#[tactic(auto, using(vp_text::proofs::Room::length_with_word, crate::proofs::Room::card_text_length))]
+#[tactic(auto, using(vp_text::proofs::Room::length_with_word, vp_card::proofs::Texts::card_text_length))]
 fn add_card(out: &mut Out, card: Card)
     requires { length out.old + 3 < 512 }
     ensures word { out.new ≡ with_word out.old (card_text card) }
@@ -35,7 +35,7 @@ fn add_cards(out: &mut Out, cards: &[Card])
 }
 
 /// Appends the texts of the five cards of a hand.
-#[tactic(auto, using(crate::proofs::Room::held_all))]
+#[tactic(auto, using(vp_card::proofs::Hands::held_all))]
 fn add_hand(out: &mut Out, hand: &Hand)
     requires { length out.old + 15 < 512 }
     ensures words { out.new ≡ with_words out.old (map card_text hand.now) }

@@ -3,7 +3,7 @@ use Rattle.std.proofs.Common.{◌≡◌, ℕ, ◌<◌, ◌≤◌, Bool, true, fa
 use Rattle.std.specs.Prelude.{Option, option_map, bytes_eq, codes}
 use Rattle.std.specs.Fmt.{decimal}
 use Rattle.std.proofs.lemmas.Bool.Decides.{nat_tests}
-use Rattle.vp_card.specs.Cards.{IsDeck, is_rank_set}
+use Rattle.vp_card.specs.Cards.{IsDeck, is_deck, is_rank_set}
 use Rattle.vp_card.specs.Texts.{rank_set_text, rank_letters}
 use Rattle.vp_card.specs.Reading.{rank_of, rank_set_of}
 use Rattle.vp_card.proofs.RankSets.{rank_set_of-text, text-rank_set_of}
@@ -17,7 +17,7 @@ use Rattle.vp_pay.specs.declared.pattern.Qualifier.{Qualifier}
 use Rattle.vp_pay.specs.declared.pattern.Qualifier.TheVariants.{Either, Natural, Wild}
 use Rattle.vp_pay.specs.Names.{is_name}
 use Rattle.vp_pay.specs.Spelling.{qualifier_word, wild_word, pattern_words}
-use Rattle.vp_pay.specs.Reading.{name_of, is_deck, a_deck, deck_of, one_to_five, payment_of, letter_of_rank, wild_of, qualifier_of, plain_of}
+use Rattle.vp_pay.specs.Reading.{name_of, a_deck, deck_of, one_to_five, payment_of, letter_of_rank, wild_of, qualifier_of, plain_of}
 use Rattle.vp_pay.specs.Table.{is_pattern}
 use Rattle.vp_text.proofs.Numbers.{number_exact, number_within_exact}
 use Rattle.vp_text.proofs.Pieces.{both_true, bound, by_key, chosen, same_value, no_value, so}

@@ -1,7 +1,7 @@
 -- How a pay table and a deal line are read from left to right.
-use Rattle.std.specs.Prelude.{ℕ, ◌-◌, Bool, not, ◌&&◌, ◌==◌, nat_le, nat_lt, List, [], ◌∷◌, ◌++◌, length, replicate, Option, Some, None, option_map, bytes_eq, codes, if◌then◌else◌}
+use Rattle.std.specs.Prelude.{ℕ, ◌-◌, Bool, not, ◌&&◌, ◌==◌, nat_lt, List, [], ◌∷◌, ◌++◌, length, replicate, Option, Some, None, option_map, bytes_eq, codes, if◌then◌else◌}
 use Rattle.std.specs.List.{list_any}
-use Rattle.vp_card.specs.Cards.{in_deck, all_differ, in_order}
+use Rattle.vp_card.specs.Cards.{in_deck, is_deck, all_differ, in_order}
 use Rattle.vp_card.specs.Reading.{rank_of, rank_set_of, card_of}
 use Rattle.vp_text.specs.Lines.{Word}
 use Rattle.vp_text.specs.Reading.{next_is}
@@ -18,10 +18,6 @@ use Rattle.vp_pay.specs.declared.table.PayLine.{PayLine}
 
 unfoldable pub name_of : Word → Option Word
 name_of text = if is_name text then Some text else None
-
--- the test of IsDeck
-abbrev pub is_deck : ℕ → Bool
-is_deck n = nat_le 52 n && nat_le n 54
 
 -- the number of cards of a deck
 abbrev pub a_deck : ℕ → Option ℕ

@@ -74,6 +74,25 @@ line high-pair pair KA either 1
 end
 ";
 
+/// The table of the jokers with kings or better, for one to five coins.
+pub const KINGS_BY_COINS: &[u8] = b"table joker-kings
+deck 53
+wild none
+coins 5
+line natural-royal royal natural 250 500 750 1000 4000
+line five-kind five-kind any either 200 400 600 800 1000
+line wild-royal royal wild 100 200 300 400 500
+line straight-flush straight-flush either 50 100 150 200 250
+line quads quads any either 20 40 60 80 100
+line full-house full-house either 7 14 21 28 35
+line flush flush either 5 10 15 20 25
+line straight straight either 3 6 9 12 15
+line trips trips either 2 4 6 8 10
+line two-pair two-pair either 1 2 3 4 5
+line high-pair pair KA either 1 2 3 4 5
+end
+";
+
 /// The joker alone pays.
 pub const ONE_JOKER: &[u8] = b"table one-joker
 deck 53
@@ -90,6 +109,19 @@ wild none
 coins 1
 line one wilds 1 either 1
 line both wilds 2 either 2
+end
+";
+
+/// Two jokers, and lines that both may help.
+pub const JOKER_QUADS: &[u8] = b"table joker-quads
+deck 54
+wild none
+coins 2
+line five-kind five-kind any either 90 200
+line straight-flush straight-flush either 40 80
+line quads quads any either 9 18
+line flush flush either 4 8
+line trips trips either 1 2
 end
 ";
 

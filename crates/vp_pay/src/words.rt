@@ -1,20 +1,11 @@
 //! Words of a pay table that are one value each.
 
-ghost use Rattle.std.specs.Prelude.{◌≡◌, ◌↔◌, IsTrue};
-ghost use Rattle.vp_card.specs.Cards.{IsDeck};
-ghost use Rattle.vp_pay.specs.Reading.{deck_of, is_deck, wild_of, letter_of_rank, qualifier_of, plain_of};
+ghost use Rattle.std.specs.Prelude.{◌≡◌};
+ghost use Rattle.vp_pay.specs.Reading.{deck_of, wild_of, letter_of_rank, qualifier_of, plain_of};
 
 use crate::{Pattern, Qualifier};
-use vp_card::rank_of;
+use vp_card::{is_deck, rank_of};
 use vp_text::number;
-
-/// Whether a deck has so many cards.
-fn is_deck(cards: u8) -> bool
-    ensures value { result ≡ is_deck cards }
-    ensures deck { IsTrue result ↔ IsDeck cards }
-{
-    52 <= cards && cards <= 54
-}
 
 /// The number of cards of a deck that this word says.
 #[tactic(auto, unfolding(crate::specs::Reading::deck_of))]

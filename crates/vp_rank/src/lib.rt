@@ -3,7 +3,7 @@
 
 mod shape;
 
-pub use shape::{Shape, is_wild_card};
+pub use shape::{Shape, is_wild, is_wild_card};
 
 #[cfg(test)]
 mod tests;

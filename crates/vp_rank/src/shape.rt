@@ -90,11 +90,17 @@ impl Shape {
 }
 
 /// Whether a card is wild: a joker, or a card of the wild rank where there is one, 0 for twos to 12 for aces.
-#[tactic(auto, unfolding(crate::specs::Wilds::is_wild))]
 pub fn is_wild_card(card: Card, wild: Option<u8>) -> bool
     ensures { result ≡ is_wild wild card }
 {
-    let number = card.number();
+    is_wild(card.number(), wild)
+}
+
+/// The same of the card with this number.
+#[tactic(auto, unfolding(crate::specs::Wilds::is_wild))]
+pub fn is_wild(number: u8, wild: Option<u8>) -> bool
+    ensures { result ≡ is_wild wild number }
+{
     number >= 52 || wild == Some(number / 4)
 }
 

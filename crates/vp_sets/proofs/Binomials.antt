@@ -25,6 +25,15 @@ choose-few (suc n) (suc k) h =
     let b : choose n (suc k) ≡ 0 = choose-few n (suc k) (omega arith) in
     omega (arith, choose-suc n k)
 
+-- more things have no fewer sets
+pub choose_le : (n m k : ℕ) → n ≤ m → choose n k ≤ choose m k
+choose_le n m zero l = omega (arith, choose-zero n, choose-zero m)
+choose_le n zero (suc k) l = let z : n ≡ 0 = omega arith in rw z (omega arith)
+choose_le n (suc m) (suc k) l = elim (cases_lt m n) [
+  | inl h ↦ let e : n ≡ suc m = omega arith in rw e (omega arith)
+  | inr h ↦ omega (arith, choose-suc m k, choose_le n m (suc k) h)
+]
+
 single_sum : (k n a b e : ℕ) → suc k * (a + b) ≡ suc n * a → suc (suc k) * e ≡ suc n * b → suc (suc k) * ((a + b) + e) ≡ suc (suc n) * (a + b)
 single_sum k n a b e p q =
     let p' : k * (a + b) + (a + b) ≡ n * a + a = rw (suc-mul, suc-mul) at p in

@@ -1,8 +1,9 @@
 -- The cards of a deck, and those that are left when a hand was dealt.
-use Rattle.std.proofs.Common.{◌≡◌, inl, inr, ℕ, zero, suc, ◌+◌, ◌<◌, ◌≤◌, Bool, true, false, cond, ◌==◌, not, nat_lt, if◌then◌else◌, List, [], ◌∷◌, ◌++◌, filter, length, refl, ap, ◌∙◌, arith, length-append}
+use Rattle.std.proofs.Common.{◌≡◌, inl, inr, ℕ, zero, suc, ◌+◌, ◌<◌, ◌≤◌, Bool, true, false, cond, ◌==◌, not, nat_lt, if◌then◌else◌, List, [], ◌∷◌, ◌++◌, filter, length, get_or, refl, ap, ◌∙◌, arith, length-append}
 use Rattle.std.specs.List.{sum_by}
-use Rattle.std.proofs.lemmas.Bool.{cases_lt}
+use Rattle.std.proofs.lemmas.Bool.{cases_lt, cases_eq}
 use Rattle.std.proofs.lemmas.Bool.Decides.{nat_tests}
+use Rattle.std.proofs.lemmas.List.{get_or_push, get_or_append_left}
 use Rattle.std.proofs.lemmas.List.Sums.{sum_by-cons, sum_by_push}
 use Rattle.vp_card.specs.Cards.{in_deck}
 use Rattle.vp_card.specs.Rising.{times, IsRising}
@@ -19,6 +20,15 @@ pub length-deck : (n : ℕ) → length (deck n) ≡ n
 unfolding deck
 length-deck zero = refl
 length-deck (suc n) = rw length-append (omega (arith, length-deck n))
+
+-- the card at a place of the deck is the place
+pub get_or-deck : (n i : ℕ) → i < n → get_or (deck n) i 0 ≡ i
+unfolding deck
+get_or-deck zero i l = absurd (omega arith)
+get_or-deck (suc n) i l = elim (cases_eq i n) [
+  | inl e ↦ rw e (get_or_push (deck n) n 0 n (length-deck n))
+  | inr d ↦ get_or_append_left (deck n) (n ∷ []) 0 i (let k : length (deck n) ≡ n = length-deck n in omega arith) ∙ get_or-deck n i (omega arith)
+]
 
 -- ---- cards below a number
 

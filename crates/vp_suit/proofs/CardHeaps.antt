@@ -5,8 +5,7 @@ use Rattle.std.proofs.Math.Nat.{pow-le-pow_right}
 use Rattle.vp_sets.specs.Sets.{deck}
 use Rattle.vp_suit.specs.Heaps.{card_heap, heap}
 use Rattle.std.proofs.lemmas.Bool.{cases_eq, cases_lt}
-use Rattle.vp_sets.proofs.Decks.{length-deck}
-use Rattle.vp_suit.proofs.Representatives.{get_or-deck}
+use Rattle.vp_sets.proofs.Decks.{length-deck, get_or-deck}
 use Rattle.vp_suit.proofs.Score.{card_own, card_other, card_joker, heap-none, heap-cons}
 use Rattle.vp_suit.specs.declared.card_heaps.TheConstants.{CARD_HEAPS}
 

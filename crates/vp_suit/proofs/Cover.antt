@@ -63,7 +63,7 @@ term_le a (suc n) i l = elim (cases_eq i n) [
   | inr d ↦ let k : a i ≤ below a n = term_le a n i (omega arith) in omega (arith, below-suc a n)
 ]
 
-weighs : (n : ℕ) (cards : List ℕ) → 52 ≤ n → IsDeal n cards → 1 ≤ weight cards
+pub weighs : (n : ℕ) (cards : List ℕ) → 52 ≤ n → IsDeal n cards → 1 ≤ weight cards
 unfolding image_indexes
 weighs n cards big d =
     let i : ℕ = set_index (turn 0 cards) in

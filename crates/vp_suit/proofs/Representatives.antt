@@ -2,12 +2,12 @@
 use Rattle.std.proofs.Common.{◌≡◌, ◌⊎◌, inl, inr, ℕ, zero, suc, ◌+◌, ◌<◌, ◌≤◌, Bool, true, false, cond, ◌&&◌, ◌==◌, List, [], ◌∷◌, length, map, get_or, refl, ap, sym, subst, ◌∙◌, arith, lit≤, leb}
 use Rattle.std.proofs.lemmas.Bool.{cases_lt, cases_eq, and_parts, and_from, eqb-true, eq-eqb, both_ways, cases_Bool}
 use Rattle.std.proofs.lemmas.Bool.Decides.{same_from_decides}
-use Rattle.std.proofs.lemmas.List.{length-map, get_or-map, get_or_push, get_or_append_left}
+use Rattle.std.proofs.lemmas.List.{length-map, get_or-map}
 use Rattle.std.proofs.lemmas.List.Sums.{position_or_len_is}
 use Rattle.vp_card.specs.Rising.{IsRising}
 use Rattle.vp_sets.specs.Sets.{deck, choose, has}
 use Rattle.vp_sets.specs.Index.{set_index}
-use Rattle.vp_sets.proofs.Decks.{length-deck, in_deck-deck}
+use Rattle.vp_sets.proofs.Decks.{length-deck, get_or-deck, in_deck-deck}
 use Rattle.vp_suit.specs.Turns.{turn}
 use Rattle.vp_suit.specs.Images.{is_least}
 use Rattle.vp_suit.specs.Heaps.{heap, suit_heaps}
@@ -22,14 +22,6 @@ use Rattle.vp_suit.proofs.Falls.{Fall, fall_of, falls_tell, score_is, score_orde
 use Rattle.vp_suit.proofs.Weights.{run, run_tells, same_images, images_by, different_fresh}
 
 -- ---- the least turn
-
-pub get_or-deck : (n i : ℕ) → i < n → get_or (deck n) i 0 ≡ i
-unfolding deck
-get_or-deck zero i l = absurd (omega arith)
-get_or-deck (suc n) i l = elim (cases_eq i n) [
-  | inl e ↦ rw e (get_or_push (deck n) n 0 n (length-deck n))
-  | inr d ↦ get_or_append_left (deck n) (n ∷ []) 0 i (let k : length (deck n) ≡ n = length-deck n in omega arith) ∙ get_or-deck n i (omega arith)
-]
 
 image_at : (cards : List ℕ) (t : ℕ) → t < 24 → get_or (image_indexes cards) t 0 ≡ set_index (turn t cards)
 unfolding image_indexes

@@ -1,5 +1,5 @@
 -- Classes of deals: the images under the turns of the suits, the representative and the weight.
-use Rattle.std.specs.Prelude.{◌≡◌, ℕ, ◌<◌, Bool, List, length, map, filter, slice_index_or}
+use Rattle.std.specs.Prelude.{◌≡◌, ℕ, ◌<◌, Bool, false, List, ◌∷◌, drop, length, map, filter, slice_index, slice_index_or}
 use Rattle.std.specs.List.{position_or_len}
 use Rattle.vp_sets.specs.Sets.{deck}
 use Rattle.vp_sets.specs.Index.{IsSet, set_index, colex}
@@ -38,6 +38,14 @@ weight cards = length (different (image_indexes cards))
 -- the representatives among all deals from a deck of n, by rising index
 unfoldable pub representatives : ℕ → List (List ℕ)
 representatives n = filter (λ cards. is_representative cards) (colex 5 n)
+
+-- no card below the second one makes, with all cards but the lowest, a representative
+abbrev pub NoLowestStands : List ℕ → Type 0
+NoLowestStands cards = (lowest : ℕ) → lowest < slice_index cards 1 → is_representative (lowest ∷ drop 1 cards) ≡ false
+
+-- the representatives among some deals
+abbrev pub representatives_in : List (List ℕ) → List (List ℕ)
+representatives_in some = filter (λ cards. is_representative cards) some
 
 -- the number of a deal in a list of one number for each deal, by index
 abbrev pub listed : List ℕ → List ℕ → ℕ

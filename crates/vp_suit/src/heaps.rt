@@ -1,7 +1,7 @@
 //! Each suit's cards as one number, its heap, by which suits are compared.
 
-ghost use Rattle.std.specs.Prelude.{◌≡◌, ◌+◌, ◌^◌, ◌<◌, ◌≤◌, ℕ, List, ◌∷◌, drop, false, nat_lt, slice_index, true};
-ghost use Rattle.vp_suit.specs.Classes.{IsDeal, is_representative};
+ghost use Rattle.std.specs.Prelude.{◌≡◌, ◌+◌, ◌^◌, ◌<◌, ◌≤◌, ℕ, List, drop, nat_lt, true};
+ghost use Rattle.vp_suit.specs.Classes.{IsDeal, NoLowestStands};
 ghost use Rattle.vp_suit.specs.Heaps.{card_heap, falls, heap, jumps, suit_heaps};
 
 use crate::card_heaps::CARD_HEAPS;
@@ -68,7 +68,7 @@ pub(crate) fn fall(heaps: &[u64; 4]) -> bool
 pub(crate) fn none_stands(above: &[u64; 4], cards: &[u8; 5]) -> bool
     requires deal { IsDeal 54 cards.now }
     requires above { above.now ≡ suit_heaps (drop 1 cards.now) }
-    ensures { result ≡ true → (lowest : ℕ) → lowest < slice_index cards.now 1 → is_representative (lowest ∷ drop 1 cards.now) ≡ false }
+    ensures { result ≡ true → NoLowestStands cards.now }
 {
     jump(above, 1 << (4 * (cards[1] / 4)))
 }

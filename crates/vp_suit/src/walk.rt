@@ -1,10 +1,10 @@
 //! A walk over the deals from a deck, by rising index, that leaves out runs of deals without a representative.
 
-ghost use Rattle.std.specs.Prelude.{◌≡◌, ◌+◌, ◌++◌, ◌<◌, ◌≤◌, ◌↔◌, [], IfSome, IfNone, IsTrue, drop, false, filter, length, option_map, option_to_list, true};
+ghost use Rattle.std.specs.Prelude.{◌≡◌, ◌+◌, ◌++◌, ◌<◌, ◌≤◌, ◌↔◌, [], IfSome, IfNone, IsTrue, drop, false, length, option_map, option_to_list, true};
 ghost use Rattle.vp_card.specs.Cards.{IsDeck};
 ghost use Rattle.vp_sets.specs.Index.{HasIndex, set_index};
 ghost use Rattle.vp_sets.specs.Sets.{choose};
-ghost use Rattle.vp_suit.specs.Classes.{IsDeal, is_representative};
+ghost use Rattle.vp_suit.specs.Classes.{IsDeal, representatives_in};
 ghost use Rattle.vp_suit.specs.Heaps.{suit_heaps};
 
 use crate::deal::Deal;
@@ -55,8 +55,9 @@ impl Deals {
 
     /// The next deal that may be a representative; None after the last. The deals that are left out are none.
     pub(crate) fn next(&mut self) -> Option<Deal>
-        ensures given { filter (λ cards. is_representative cards) self.old ≡ filter (λ cards. is_representative cards) (option_to_list (option_map (λ deal. deal.cards) result) ++ self.new) }
-        ensures end { IfNone result (filter (λ cards. is_representative cards) self.old ≡ []) }
+        ensures given { representatives_in self.old
+            ≡ representatives_in (option_to_list (option_map (λ deal. deal.cards) result) ++ self.new) }
+        ensures end { IfNone result (representatives_in self.old ≡ []) }
         ensures fewer { IfSome result (λ deal. length self.new < length self.old) }
     {
         self.skip();
@@ -73,7 +74,7 @@ impl Deals {
 
     /// Goes to the last deal with the same cards but the lowest, where none of these deals is a representative.
     fn skip(&mut self)
-        ensures kept { filter (λ cards. is_representative cards) self.new ≡ filter (λ cards. is_representative cards) self.old }
+        ensures kept { representatives_in self.new ≡ representatives_in self.old }
         ensures no_more { length self.new ≤ length self.old }
     {
         if none_stands(&self.above, &self.cards) {

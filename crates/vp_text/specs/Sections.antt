@@ -6,6 +6,14 @@ use Rattle.vp_text.specs.Lines.{Word, WordLine, Feed}
 abbrev pub Text : Type 0
 Text = List (List Word)
 
+-- the values that a test lets pass
+abbrev pub Passes : {A : Type 0} → (A → Bool) → A → Type 0
+Passes test value = IsTrue (test value)
+
+-- the values that a test lets pass behind another one
+abbrev pub PassesBehind : {A B : Type 0} → (A → B → Bool) → A → B → Type 0
+PassesBehind test first second = IsTrue (test first second)
+
 abbrev pub text_of : List WordLine → Text
 text_of lines = map (λ line. line.words) lines
 

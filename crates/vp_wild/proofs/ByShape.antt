@@ -10,7 +10,7 @@ use Rattle.std.proofs.lemmas.List.{get_or_past}
 use Rattle.std.proofs.lemmas.List.Folds.{find_at}
 use Rattle.std.proofs.lemmas.Option.{slice_get-get_or, slice_get_past, cond_some, none-some}
 use Rattle.std.proofs.lemmas.Nat.Bits.{same_from_bits_below, bit_at-zero}
-use Rattle.vp_card.specs.Cards.{rank, suit, held}
+use Rattle.vp_card.specs.Cards.{rank, suit}
 use Rattle.vp_rank.specs.Counts.{ranked, suited, one_suit, fits_window}
 use Rattle.vp_rank.specs.Shapes.{IsShape, IsSuitMask, bit_of, count_of}
 use Rattle.vp_rank.specs.Wilds.{wilds, naturals}
@@ -179,16 +179,6 @@ pub shape_line : (w : Option ℕ) (lines : List PayLine) (hand : List ℕ) (s : 
 unfolding first_line
 shape_line w lines hand s five is =
     ap (λ (test : PayLine → Bool). position test lines) (fun_ext (λ l. shape_hits_is w hand s five is l))
-
--- all cards of a hand are held
-pub held_all : (hand : List ℕ) → length hand ≡ 5 → held 31 hand ≡ hand
-held_all (a ∷ b ∷ c ∷ d ∷ e ∷ []) h = refl
-held_all [] h = absurd (let f : 0 ≡ 5 = h in omega arith)
-held_all (a ∷ []) h = absurd (let f : 1 ≡ 5 = h in omega arith)
-held_all (a ∷ b ∷ []) h = absurd (let f : 2 ≡ 5 = h in omega arith)
-held_all (a ∷ b ∷ c ∷ []) h = absurd (let f : 3 ≡ 5 = h in omega arith)
-held_all (a ∷ b ∷ c ∷ d ∷ []) h = absurd (let f : 4 ≡ 5 = h in omega arith)
-held_all (a ∷ b ∷ c ∷ d ∷ e ∷ f ∷ hand) h = absurd (let g : suc (suc (suc (suc (suc (suc (length hand)))))) ≡ 5 = h in omega arith)
 
 -- the mask of windows is 0 where no window fits
 pub no_window : (mask : ℕ) (count : ℕ → ℕ) → mask < 1024 → ((k : ℕ) → k < 10 → bit_at mask k ≡ bit_of (fits_window k count)) → not (eqb mask 0) ≡ fits_some_window count

@@ -2,8 +2,7 @@
 use Rattle.std.proofs.Common.{◌≡◌, ℕ, zero, suc, ◌+◌, ◌/◌, ◌<◌, List, [], ◌∷◌, length, map, get_or, refl, ap, sym, subst, ◌∙◌, arith}
 use Rattle.std.proofs.lemmas.List.{get_or-map}
 use Rattle.vp_sets.specs.Sets.{choose, deck}
-use Rattle.vp_sets.proofs.Decks.{length-deck}
-use Rattle.vp_suit.proofs.Representatives.{get_or-deck}
+use Rattle.vp_sets.proofs.Decks.{length-deck, get_or-deck}
 use Rattle.vp_wild.specs.declared.rank_ways.TheConstants.{RANK_WAYS}
 
 row : ℕ → List ℕ

@@ -14,8 +14,7 @@ use Rattle.vp_rank.proofs.Masks.{suit_below, suit_added}
 use Rattle.vp_sets.specs.Index.{IsSet}
 use Rattle.vp_sets.specs.Sets.{deck}
 use Rattle.vp_sets.proofs.Colex.{Below, set_below}
-use Rattle.vp_sets.proofs.Decks.{length-deck}
-use Rattle.vp_suit.proofs.Representatives.{get_or-deck}
+use Rattle.vp_sets.proofs.Decks.{length-deck, get_or-deck}
 use Rattle.vp_wild.specs.ByCounts.{at_most_one_suit}
 use Rattle.vp_wild.specs.declared.places.TheConstants.{ONE_SUIT}
 use Rattle.vp_wild.specs.Places.{AreSuitBits, suit_bit, suits_by}

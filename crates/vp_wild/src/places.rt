@@ -1,13 +1,13 @@
 //! Where the pay line of a hand is kept: at one place for all hands of the same ranks, and of one suit or not.
 
 ghost use Rattle.std.specs.Prelude.{◌≡◌, ◌+◌, ◌/◌, ◌<◌, length};
-ghost use Rattle.vp_rank.specs.Wilds.{is_wild};
 ghost use Rattle.vp_sets.specs.Index.{IsSet, set_index};
 ghost use Rattle.vp_sets.specs.Sets.{choose};
 ghost use Rattle.vp_wild.specs.ByCounts.{at_most_one_suit};
 ghost use Rattle.vp_wild.specs.Places.{AreSuitBits, place_of, raised, suit_bit, suits_by};
 
 use crate::rank_ways::RANK_WAYS;
+use vp_rank::is_wild;
 
 /// How many places there are: two for each row of five ranks, the joker's among them.
 pub(crate) const PLACES: usize = 17136;
@@ -74,13 +74,6 @@ fn suit_bit(card: u8, wild: Option<u8>) -> u8
     } else {
         1 << (card % 4)
     }
-}
-
-#[tactic(auto, unfolding(vp_rank::specs::Wilds::is_wild))]
-fn is_wild(card: u8, wild: Option<u8>) -> bool
-    ensures { result ≡ is_wild wild card }
-{
-    card >= 52 || wild == Some(card / 4)
 }
 
 /// The index of the raised ranks of the cards, among all sets of five numbers below 18.

@@ -4,7 +4,7 @@ ghost use Rattle.std.specs.Prelude.{◌≤◌, length};
 ghost use Rattle.vp_card.specs.Cards.{IsDeck};
 
 use crate::samples::{
-    BONUS, DEUCES, DEUCES_AND_ACE, GREATEST, JACKS, KICKER, KINGS, LONG, ONE_JOKER,
+    BONUS, DEUCES, DEUCES_AND_ACE, GREATEST, JACKS, JOKER_QUADS, KICKER, KINGS, LONG, ONE_JOKER,
     OPERATORS_JACKS, TWO_JOKERS, ZERO,
 };
 use crate::{PayTable, five_cards, next_card, read_deal};
@@ -20,6 +20,7 @@ fn written_as_read(rt: HostRuntime) -> Result<(), Fail> {
         BONUS,
         DEUCES,
         KINGS,
+        JOKER_QUADS,
         GREATEST,
         KICKER,
         DEUCES_AND_ACE,

@@ -1,7 +1,7 @@
 -- All five cards are held.
 use Rattle.std.proofs.Common.{List, ℕ, subst, ◌∙◌}
 use Rattle.vp_rank.specs.Shapes.{IsShape}
-use Rattle.vp_wild.proofs.ByShape.{held_all}
+use Rattle.vp_card.proofs.Hands.{held_all}
 use Rattle.vp_wild.proofs.ranker.shape_of.Goals as goal
 
 pub returns-clause-shape : goal.returns-clause-shape
