@@ -39,7 +39,8 @@ pub(crate) fn put_return<K: Sink>(
     denominator: u64,
     sink: &mut K,
 ) -> Result<(), WriteFault>
-    ensures { Puts (K.told sink.old) (K.told sink.new) result (written (return_words sum denominator ∷ (codes "end" ∷ []) ∷ [])) }
+    ensures { Puts (K.told sink.old) (K.told sink.new) result
+        (written (return_words sum denominator ∷ (codes "end" ∷ []) ∷ [])) }
 {
     let fraction = [
         Word::Text(b"return"),

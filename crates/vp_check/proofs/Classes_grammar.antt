@@ -6,7 +6,7 @@ use Rattle.std.specs.List.{AllByRecursion}
 use Rattle.std.proofs.lemmas.Bool.{lt-ltb, ltb-true}
 use Rattle.std.proofs.lemmas.List.{append-nil}
 use Rattle.std.proofs.lemmas.List.Elements.{All-from_recursion}
-use Rattle.vp_card.specs.Cards.{in_deck}
+use Rattle.vp_card.specs.Cards.{in_deck, rises}
 use Rattle.vp_card.specs.Texts.{card_text}
 use Rattle.vp_card.specs.Reading.{card_of}
 use Rattle.vp_text.specs.Lines.{Word}
@@ -21,10 +21,10 @@ use Rattle.vp_pay.proofs.Deals.{Exact-card}
 use Rattle.vp_pay.proofs.Tables.{of_all}
 use Rattle.vp_suit.specs.Classes.{IsDeal, representatives}
 use Rattle.vp_check.specs.Certificates.{IsClassLine}
-use Rattle.vp_check.specs.Reading.{rises, of_deck, class_of, return_of, row_of, may_follow, class_or_return, class_lines}
+use Rattle.vp_check.specs.Reading.{of_deck, class_of, return_of, row_of, may_follow, class_or_return, class_lines}
 use Rattle.vp_check.specs.Spelling.{class_words, return_words}
 use Rattle.vp_check.specs.declared.class_line.ClassLine.{ClassLine}
-use Rattle.vp_check.proofs.Cards_grammar.{rises-increasing, increasing-rises}
+use Rattle.vp_card.proofs.Rises.{rises-increasing, increasing-rises}
 
 -- ---- cards
 

@@ -6,7 +6,7 @@ use Rattle.std.proofs.lemmas.List.Elements.{recursion_from_All}
 use Rattle.std.proofs.lemmas.List.Sums.{sum_by-cons}
 use Rattle.vp_card.specs.Cards.{IsDeck}
 use Rattle.vp_sets.specs.Sets.{choose}
-use Rattle.vp_sets.proofs.Binomials.{choose-suc}
+use Rattle.vp_sets.proofs.Binomials.{choose_le}
 use Rattle.vp_sets.proofs.Pascal.{ways_are}
 use Rattle.vp_suit.specs.Classes.{IsDeal, is_representative, representatives, weight}
 use Rattle.vp_suit.specs.Heaps.{card_heap, heap}
@@ -160,17 +160,9 @@ four_classes n most =
     let each : below (λ i. 4 * one i) N ≤ below (λ i. weighs i + three i) N = below_le (λ i. 4 * one i) (λ i. weighs i + three i) N (λ i l. each_weighs n i most) in
     omega (arith, many, whole, each, below-times 4 one N, below-plus weighs three N, threes (choose 52 5) N)
 
--- more things give no fewer choices
-choose_up : (n m k : ℕ) → n ≤ m → choose n (suc k) ≤ choose m (suc k)
-choose_up n zero k l = let z : n ≡ 0 = omega arith in rw z (omega arith)
-choose_up n (suc m) k l = elim (cases_lt m n) [
-  | inl h ↦ let same : n ≡ suc m = omega arith in rw same (omega arith)
-  | inr h ↦ omega (arith, choose-suc m k, choose_up n m k h)
-]
-
 -- in no deck are there more
 pub few_classes : (n : ℕ) → IsDeck n → length (representatives n) ≤ 1213290
 few_classes n is =
     let natural : choose 52 5 ≡ 2598960 = sym (ways_are 52 5 (lit≤ tt) (lit≤ tt)) in
     let greatest : choose 54 5 ≡ 3162510 = sym (ways_are 54 5 (lit≤ tt) (lit≤ tt)) in
-    omega (arith, four_classes n is.0, natural, greatest, choose_up n 54 4 is.1)
+    omega (arith, four_classes n is.0, natural, greatest, choose_le n 54 5 is.1)

@@ -1,4 +1,3 @@
-pub mod Cards_grammar
 pub mod Certificates_grammar
 pub mod Classes_grammar
 pub mod KeptRules

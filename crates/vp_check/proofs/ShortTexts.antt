@@ -12,7 +12,7 @@ use Rattle.std.proofs.lemmas.Grind.{flat_map-append}
 use Rattle.vp_card.specs.Cards.{held, is_rank_set}
 use Rattle.vp_card.specs.Texts.{any_text, card_text, rank_letters, rank_set_text}
 use Rattle.vp_card.proofs.RankSets.{letters_are}
-use Rattle.vp_lines.proofs.Room.{card_text_length}
+use Rattle.vp_card.proofs.Texts.{card_text_length}
 use Rattle.vp_text.specs.Lines.{Word}
 use Rattle.vp_text.specs.Sections.{Text}
 use Rattle.vp_text.specs.Written.{line_of, spaced, written}

@@ -1,7 +1,7 @@
 -- How a certificate is read from left to right.
-use Rattle.std.specs.Prelude.{ℕ, Bool, true, ◌&&◌, nat_lt, List, [], ◌∷◌, length, Option, Some, None, option_map, ◌⊎◌, codes, if◌then◌else◌}
+use Rattle.std.specs.Prelude.{ℕ, ◌&&◌, nat_lt, List, length, Option, Some, None, option_map, ◌⊎◌, codes, if◌then◌else◌}
 use Rattle.std.proofs.Common.{inl, inr}
-use Rattle.vp_card.specs.Cards.{in_deck}
+use Rattle.vp_card.specs.Cards.{in_deck, rises}
 use Rattle.vp_card.specs.Reading.{card_of}
 use Rattle.vp_text.specs.Lines.{Word}
 use Rattle.vp_text.specs.Reading.{next_is, one_line, both, rows, mapped}
@@ -15,12 +15,6 @@ use Rattle.vp_check.specs.Certificates.{Certificate}
 use Rattle.vp_check.specs.declared.class_line.ClassLine.{ClassLine}
 
 -- ---- class lines
-
--- each card is above the card before
-abbrev pub rises : List ℕ → Bool
-rises [] = true
-rises (card ∷ []) = true
-rises (card ∷ next ∷ cards) = nat_lt card next && rises (next ∷ cards)
 
 -- this class line, where its cards rise and are of a deck of n
 abbrev pub of_deck : ℕ → ClassLine → Option ClassLine

@@ -7,7 +7,7 @@ use Rattle.vp_draws.specs.Draws.{best, least_best, return_denominator, sum_of_be
 use Rattle.vp_sets.specs.Index.{set_index}
 use Rattle.vp_sets.specs.Sets.{choose}
 use Rattle.vp_suit.specs.Classes.{is_representative, representatives, weight}
-use Rattle.vp_check.specs.Certificates.{Certificate}
+use Rattle.vp_check.specs.Certificates.{Certificate, IsCertificate}
 use Rattle.vp_check.specs.Rules.{first_break, in_range, rows}
 use Rattle.vp_check.specs.declared.class_line.ClassLine.{ClassLine}
 
@@ -26,6 +26,18 @@ AllWalked from count P lines = All (λ row. in_range from count row.place ≡ tr
 -- the cards of the class lines
 abbrev pub hands : Certificate → List (List ℕ)
 hands c = map (λ line. line.hand) c.classes
+
+-- the class lines are all classes, by rising index
+abbrev pub HasAllClasses : Certificate → Type 0
+HasAllClasses c = hands c ≡ representatives c.table.deck
+
+-- each class line has the least best mask, for this pay table and bet
+abbrev pub HasLeastBestMasks : PayTable → ℕ → Certificate → Type 0
+HasLeastBestMasks table coin c = All (λ line. line.mask ≡ least_best table coin line.hand) c.classes
+
+-- what holds of each certificate in the grammar, whichever class lines are walked
+abbrev pub OfEachWalk : (ℕ → ℕ → Certificate → Type 0) → Type 0
+OfEachWalk P = (from count : ℕ) (c : Certificate) → IsCertificate c → P from count c
 
 -- what a certificate without a broken rule is, where `count` class lines from the place `from` on are walked: least images that
 -- rise by index, with their weights, the best value and a best hold on each walked line; and a return for all deals

@@ -30,7 +30,8 @@ pub fn check(bytes: &[u8], from: u32, count: u32) -> Result<Checked, Finding>
     // Refused is the first line with which the lines so far begin no certificate, or the one past the end.
     ensures refused { (line : ℕ) → result ≡ Err (Refused line) ↔ RefusesCertificate bytes.now line }
     // Bad is the first broken rule of the first line that breaks one.
-    ensures bad { (line : ℕ) (rule : CertRule) (said due : ℕ) → result ≡ Err (Bad line rule said due) ↔ IsBad bytes.now from count (Bad line rule said due) }
+    ensures bad { (line : ℕ) (rule : CertRule) (said due : ℕ)
+        → result ≡ Err (Bad line rule said due) ↔ IsBad bytes.now from count (Bad line rule said due) }
     ensures value { result ≡ check_result bytes.now from count }
 {
     check_from::<Brand>(bytes, from, count, Blank::new(1))

@@ -1,27 +1,25 @@
 //! Laws of certificates, each the contract of a function that does nothing.
 
 ghost use Rattle.std.specs.Prelude.{◌≡◌, ℕ, ◌+◌, ◌<◌, ◌≤◌, ◌↔◌, length};
-ghost use Rattle.std.specs.List.{All};
 ghost use Rattle.vp_pay.specs.Bets.{IsBet};
 ghost use Rattle.vp_pay.specs.Table.{IsTable};
 ghost use Rattle.vp_pay.specs.declared.table.PayTable.{PayTable};
-ghost use Rattle.vp_draws.specs.Draws.{least_best};
-ghost use Rattle.vp_suit.specs.Classes.{representatives};
 ghost use Rattle.vp_check.specs.Certificates.{Certificate, IsCertificate};
 ghost use Rattle.vp_check.specs.EveryDeal.{TellsEveryDeal, TellsWalkedDeals};
-ghost use Rattle.vp_check.specs.Truth.{IsTrueCertificate, IsTrueOver, KeepsRules, due_certificate, hands};
+ghost use Rattle.vp_check.specs.Truth.{HasAllClasses, HasLeastBestMasks, IsTrueCertificate, IsTrueOver, KeepsRules, OfEachWalk, due_certificate};
 
 /// What it says that no line of a certificate breaks a rule, where the class lines of a range are walked: its cards are all
 /// least images, rising by index, with their weights; walked lines have the best value and a best hold; and the return is that
 /// of the class lines.
 pub fn certificates_keep_rules()
-    ensures rules { (from count : ℕ) (c : Certificate) → IsCertificate c → (IsTrueOver from count c ↔ KeepsRules from count c) }
+    ensures rules { OfEachWalk (λ from count c. (IsTrueOver from count c ↔ KeepsRules from count c)) }
     // Whichever lines are walked, the class lines are all classes.
-    ensures classes { (from count : ℕ) (c : Certificate) → IsCertificate c → IsTrueOver from count c → hands c ≡ representatives c.table.deck }
+    ensures classes { OfEachWalk (λ from count c. IsTrueOver from count c → HasAllClasses c) }
     // Where all class lines are walked, the certificate is true.
-    ensures all { (from count : ℕ) (c : Certificate) → IsCertificate c → from ≤ 1 → length c.classes < from + count → IsTrueOver from count c → IsTrueCertificate c }
+    ensures all { OfEachWalk (λ from count c. from ≤ 1 → length c.classes < from + count
+        → IsTrueOver from count c → IsTrueCertificate c) }
     // A true certificate is true over whatever lines are walked.
-    ensures any { (from count : ℕ) (c : Certificate) → IsCertificate c → IsTrueCertificate c → IsTrueOver from count c }
+    ensures any { OfEachWalk (λ from count c. IsTrueCertificate c → IsTrueOver from count c) }
 {}
 
 /// A certificate that is true over all its lines tells every deal: each deal of the deck has a printed hold, one that some
@@ -45,5 +43,6 @@ pub fn due_certificate_is_true()
     // So it tells every deal.
     ensures tells { (table : PayTable) (coin : ℕ) → IsBet table coin → TellsEveryDeal (due_certificate table coin) }
     // There is no other.
-    ensures only { (table : PayTable) (coin : ℕ) (c : Certificate) → IsCertificate c → IsTrueCertificate c → c.table ≡ table → c.coin ≡ coin → All (λ line. line.mask ≡ least_best table coin line.hand) c.classes → c ≡ due_certificate table coin }
+    ensures only { (table : PayTable) (coin : ℕ) (c : Certificate) → IsCertificate c → IsTrueCertificate c
+        → c.table ≡ table → c.coin ≡ coin → HasLeastBestMasks table coin c → c ≡ due_certificate table coin }
 {}

@@ -73,7 +73,8 @@ impl Listed {
     fn first_broken(&self, line: u32, index: u32, class: &ClassLine) -> Option<Broken>
         requires lines { self.now.lines + 1 < 2 ^ 32 }
         requires index { index ≡ set_index class.now.hand }
-        ensures { result ≡ first_of (self.now.broken ∷ broken_at (self.now.lines + 1) self.now.last (record { line = line; class = class.now }) ∷ []) }
+        ensures { result ≡ first_of (self.now.broken
+            ∷ broken_at (self.now.lines + 1) self.now.last (record { line = line; class = class.now }) ∷ []) }
     {
         if self.broken.is_some() {
             return self.broken;

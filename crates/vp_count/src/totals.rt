@@ -67,9 +67,12 @@ fn leave_out(totals: &mut [u64; 32], bit: u8)
     requires bit { 0 < bit }
     requires one { IsOneBit bit }
     requires within { (mask : ℕ) → mask < 32 → mask / bit % 2 ≡ 0 → mask + bit < 32 }
-    requires part { (mask : ℕ) → mask < 32 → mask / bit % 2 ≡ 0 → slice_index totals.old (mask + bit) ≤ slice_index totals.old mask }
-    ensures discarded { (mask : ℕ) → mask < 32 → mask / bit % 2 ≡ 0 → slice_index totals.new mask + slice_index totals.old (mask + bit) ≡ slice_index totals.old mask }
-    ensures held { (mask : ℕ) → mask < 32 → mask / bit % 2 ≡ 1 → slice_index totals.new mask ≡ slice_index totals.old mask }
+    requires part { (mask : ℕ) → mask < 32 → mask / bit % 2 ≡ 0
+        → slice_index totals.old (mask + bit) ≤ slice_index totals.old mask }
+    ensures discarded { (mask : ℕ) → mask < 32 → mask / bit % 2 ≡ 0
+        → slice_index totals.new mask + slice_index totals.old (mask + bit) ≡ slice_index totals.old mask }
+    ensures held { (mask : ℕ) → mask < 32 → mask / bit % 2 ≡ 1
+        → slice_index totals.new mask ≡ slice_index totals.old mask }
 {
     let mut base = 0;
     while base < 32 {

@@ -1,12 +1,11 @@
 -- Best values, and their sum over all deals, fit 64 bits.
-use Rattle.std.proofs.Common.{◌≡◌, inl, inr, ℕ, zero, suc, ◌*◌, ◌^◌, ◌<◌, ◌≤◌, List, sym, lit≤, arith}
+use Rattle.std.proofs.Common.{◌≡◌, ℕ, zero, suc, ◌*◌, ◌^◌, ◌<◌, ◌≤◌, List, sym, lit≤, arith}
 use Rattle.std.proofs.Math.Nat.{mul-le-mul_left, mul-le-mul_right, mul-suc}
 use Rattle.std.specs.List.{sum_by}
 use Rattle.vp_card.specs.Cards.{IsDeck}
 use Rattle.vp_sets.specs.Sets.{deck, combos, choose}
 use Rattle.vp_sets.specs.Draws.{common}
-use Rattle.std.proofs.lemmas.Bool.{cases_lt}
-use Rattle.vp_sets.proofs.Binomials.{choose-suc}
+use Rattle.vp_sets.proofs.Binomials.{choose_le}
 use Rattle.vp_sets.proofs.Pascal.{ways_are}
 use Rattle.vp_sets.proofs.Denominators.{common_small}
 use Rattle.vp_sets.proofs.Holds.{Dealt}
@@ -30,19 +29,11 @@ below_le : (x : ℕ → ℕ) (m n : ℕ) → ((i : ℕ) → i < n → x i ≤ m)
 below_le x m zero h = omega (arith, below-zero x)
 below_le x m (suc n) h = omega (arith, below-suc x n, below_le x m n (λ i l. h i (omega arith)), h n (omega arith), mul-suc m n)
 
--- more cards have no fewer deals
-choose_up : (n m k : ℕ) → n ≤ m → choose n (suc k) ≤ choose m (suc k)
-choose_up n zero k l = let z : n ≡ 0 = omega arith in rw z (omega arith)
-choose_up n (suc m) k l = elim (cases_lt m n) [
-  | inl h ↦ let e : n ≡ suc m = omega arith in rw e (omega arith)
-  | inr h ↦ omega (arith, choose-suc m k, choose_up n m k h)
-]
-
 -- how many deals there are, at most
 deals_few : (n : ℕ) → n ≤ 54 → choose n 5 ≤ 3162510
 deals_few n l =
     let greatest : choose 54 5 ≡ 3162510 = sym (ways_are 54 5 (lit≤ tt) (lit≤ tt)) in
-    omega (arith, greatest, choose_up n 54 4 l)
+    omega (arith, greatest, choose_le n 54 5 l)
 
 -- the greatest payment for every deal of a deck fits
 room : (n : ℕ) → IsDeck n → 500000 * common n * choose n 5 < 2 ^ 64

@@ -1,2 +1,3 @@
 pub mod Choices
 pub mod Draws
+pub mod Laws

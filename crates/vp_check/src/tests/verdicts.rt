@@ -6,34 +6,7 @@ use arrayvec::ArrayVec;
 use std::test::*;
 use vp_io::MemSink;
 use vp_pay::PayTable;
-
-/// Pays 1 for a hand with the joker.
-const ONE: &[u8] = b"table one-joker
-deck 53
-wild none
-coins 1
-line joker wilds 1 either 1
-end
-";
-
-/// Pays 1 for a hand with one joker, and 2 for one with both.
-const TWO: &[u8] = b"table two-jokers
-deck 54
-wild none
-coins 1
-line one wilds 1 either 1
-line both wilds 2 either 2
-end
-";
-
-/// Pays nothing.
-const ZERO: &[u8] = b"table zero
-deck 52
-wild none
-coins 1
-line royal royal either 0
-end
-";
+use vp_pay::samples::{ONE_JOKER, TWO_JOKERS, ZERO};
 
 /// The answer to a table and these lines behind it; None where they are too long.
 fn answer(table: &[u8], lines: &[u8], from: u32, count: u32) -> Option<Result<Checked, Finding>> {
@@ -72,7 +45,7 @@ fn refused_texts(rt: HostRuntime) {
     ];
     for (lines, line) in cases {
         assert_eq!(rt;
-            answer(ONE, lines, 1, 1),
+            answer(ONE_JOKER, lines, 1, 1),
             Some(Err(Finding::Refused { line }))
         );
     }
@@ -100,15 +73,21 @@ fn first_broken_rules(rt: HostRuntime) {
         b"class 2c 2d 2h 2s 3c 4 0 891825\nclass 2c 2d 2h 3c 3d 12 0 9\nclass 2c 2d 2h 3c 4c 23 0 0\n".as_slice();
     let cases: [(&[u8], &[u8], u32, u32, Finding); 10] = [
         (ZERO, b"", 1, 9, bad(8, Cover, 0, 2598960)),
-        (ONE, b"", 1, 9, bad(8, Cover, 0, 2869685)),
-        (TWO, b"", 1, 9, bad(9, Cover, 0, 3162510)),
-        (ONE, no_image, 0, 0, bad(8, Order, 1, 0)),
-        (ONE, twice, 0, 0, bad(9, Order, 2, 2)),
-        (ONE, falling, 0, 0, bad(9, Order, 0, 2)),
-        (ONE, most, 0, 2, bad(8, Value, 18446744073709551615, 891825)),
-        (ONE, worse, 1, 1, bad(8, Mask, 713460, 891825)),
-        (ONE, two_wrong, 2, 1, bad(9, Value, 9, 891825)),
-        (ONE, two_wrong, 3, 9, bad(10, Weight, 23, 12)),
+        (ONE_JOKER, b"", 1, 9, bad(8, Cover, 0, 2869685)),
+        (TWO_JOKERS, b"", 1, 9, bad(9, Cover, 0, 3162510)),
+        (ONE_JOKER, no_image, 0, 0, bad(8, Order, 1, 0)),
+        (ONE_JOKER, twice, 0, 0, bad(9, Order, 2, 2)),
+        (ONE_JOKER, falling, 0, 0, bad(9, Order, 0, 2)),
+        (
+            ONE_JOKER,
+            most,
+            0,
+            2,
+            bad(8, Value, 18446744073709551615, 891825),
+        ),
+        (ONE_JOKER, worse, 1, 1, bad(8, Mask, 713460, 891825)),
+        (ONE_JOKER, two_wrong, 2, 1, bad(9, Value, 9, 891825)),
+        (ONE_JOKER, two_wrong, 3, 9, bad(10, Weight, 23, 12)),
     ];
     for (table, classes, from, count, due) in cases {
         assert_eq!(rt; verdict(table, classes, from, count), Some(Err(due)));
@@ -130,7 +109,7 @@ fn first_broken_rules_with_two_jokers(rt: HostRuntime) {
         (thrown, 1, 1, bad(9, Mask, 0, 7627536)),
     ];
     for (classes, from, count, due) in cases {
-        assert_eq!(rt; verdict(TWO, classes, from, count), Some(Err(due)));
+        assert_eq!(rt; verdict(TWO_JOKERS, classes, from, count), Some(Err(due)));
     }
 }
 

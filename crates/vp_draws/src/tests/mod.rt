@@ -9,12 +9,10 @@ use std::marker::Brand;
 use std::sync::ledger::{Blank, Ledger};
 use std::test::Fail;
 use vp_card::Hand;
+use vp_pay::samples::TWO_JOKERS;
 use vp_pay::{PayTable, read_deal};
 use vp_text::Lines;
 use vp_wild::Steps;
-
-const TWO_JOKERS: &[u8] =
-    b"table two-jokers\ndeck 54\nwild none\ncoins 1\nline one wilds 1 either 1\nline both wilds 2 either 2\nend\n";
 
 /// The hand of a deal line, where its cards are of the table's deck.
 fn hand_of(deal: &[u8], table: &PayTable) -> Option<Hand>
