@@ -29,14 +29,14 @@ index_of exception = set_index exception.0
 abbrev pub indexes : List Exception → List ℕ
 indexes exceptions = map (λ exception. set_index exception.0) exceptions
 
-pub excepted : Exception → Item
+unfoldable pub excepted : Exception → Item
 excepted exception = inl exception
 
-pub ruled : Rule → Item
+unfoldable pub ruled : Rule → Item
 ruled rule = inr rule
 
 -- exceptions, and then rules
-pub items_of : List Exception → List Rule → List Item
+unfoldable pub items_of : List Exception → List Rule → List Item
 items_of [] rules = map ruled rules
 items_of (exception ∷ exceptions) rules = excepted exception ∷ items_of exceptions rules
 
@@ -53,12 +53,12 @@ rules_back [] (r ∷ rs) = ap (λ (x : List Rule). r ∷ x) (rules_back [] rs)
 rules_back (e ∷ es) rs = rules_back es rs
 
 module _ (version : ℕ) (table : PayTable) (is_table : IsTable table) where
-  pub item_words : Item → List Word
+  unfoldable pub item_words : Item → List Word
   item_words (inl exception) = except_words exception
   item_words (inr rule) = rule_words table rule
 
   -- the rule of an item behind others
-  pub MayCome : List Item → Item → Type 0
+  unfoldable pub MayCome : List Item → Item → Type 0
   MayCome front (inl exception) = MayFollow (IsException table.deck) may_stand (front_of front) exception
   MayCome front (inr rule) = MayFollow (IsRule version table) (has_room 128) (front_of front).rules rule
 

@@ -190,7 +190,7 @@ module _ (table : PayTable) (is_table : IsTable table) where
     is.version,
     (
       items_keep list.version [] list.exceptions list.rules (of_all (IsException table.deck) list.exceptions is.exceptions) (of_all (IsRule list.version table) list.rules is.rules) is.most refl tt is.rising,
-      tt,
+      refl,
     ),
   )
 
@@ -198,8 +198,7 @@ module _ (table : PayTable) (is_table : IsTable table) where
   unfolding list_text parts_of
   list_spelled list =
       ap (λ (text : Text). version_words (codes "list") list.version ∷ text)
-      (sym (append_assoc (map except_words list.exceptions) (map (rule_words table) list.rules) ((codes "end" ∷ []) ∷ []))
-      ∙ ap (λ (text : Text). text ++ (codes "end" ∷ []) ∷ []) (sym (items_spelled list.version table is_table list.exceptions list.rules)))
+      (ap (λ (text : Text). text ++ (codes "end" ∷ []) ∷ []) (sym (items_spelled list.version table is_table list.exceptions list.rules)))
 
   list_of : ℕ → List Exception → List Rule → RuleList
   list_of version exceptions rules = record { version = version; exceptions = exceptions; rules = rules }
@@ -253,7 +252,7 @@ module _ (table : PayTable) (is_table : IsTable table) where
 
   closes : (version : ℕ) (front : List Rule) → Closes some_rules (MayJoin version) front
   closes version [] = record { more = one_rule ∷ []; keeps = (record { valid = is_one_rule version; follows = refl }, tt); closes = refl }
-  closes version (rule ∷ front) = record { more = []; keeps = tt; closes = refl }
+  closes version (rule ∷ front) = record { more = []; keeps = tt; closes = le-leb 1 (length ((rule ∷ front) ++ [])) (omega arith) }
 
   Exact-rules : (version : ℕ) → Exact rules_text (AreRules version) (rules_at version table)
   Exact-rules version =
@@ -293,7 +292,7 @@ module _ (table : PayTable) (is_table : IsTable table) where
 
   pool_parts : (pool : RulePool) → IsPool table pool → AreBoth IsVersion AreRules (pool_parts_of pool)
   unfolding pool_parts_of
-  pool_parts pool is = (is.version, (join_keep pool.version [] pool.rules (of_all (IsRule pool.version table) pool.rules is.rules) is.most, le-leb 1 (length pool.rules) is.some))
+  pool_parts pool is = (is.version, (join_keep pool.version [] pool.rules (of_all (IsRule pool.version table) pool.rules is.rules) (omega (arith, is.most)), le-leb 1 (length pool.rules) is.some))
 
   pub Exact-pool : Exact (pool_text table) (IsPool table) (pool_at table)
   unfolding pool_at pool_text pool_parts_of
