@@ -4,5 +4,6 @@ pub mod Items
 pub mod Kept
 pub mod ListsGrammar
 pub mod Rows
+pub mod RuleWords
 pub mod RulesGrammar
 pub mod TestsGrammar
