@@ -1,3 +1,11 @@
+pub mod Answered
 pub mod CardsGrammar
 pub mod HeldRight
 pub mod TurnedRules
+pub mod Items
+pub mod Kept
+pub mod ListsGrammar
+pub mod Rows
+pub mod RuleWords
+pub mod RulesGrammar
+pub mod TestsGrammar
