@@ -72,6 +72,15 @@ impl<'a> SumTable<'a> {
         self.words[self.starts[set.len()] + index_of(set) as usize]
     }
 
+    /// The numbers of the sets of five, by their indexes.
+    pub fn numbers(&self) -> &[u64]
+        ensures numbers { result.now ≡ self.now.numbers }
+        ensures numbered { length self.now.numbers ≡ choose self.now.size 5 }
+        ensures bounded { All (λ x. x ≤ 250000000000) self.now.numbers }
+    {
+        &self.words[self.starts[5]..]
+    }
+
     /// For each mask the sum of the numbers of all sets of five that contain the held cards of the hand.
     pub fn held_sums(&self, hand: &[u8; 5]) -> [u64; 32]
         requires hand { IsSet self.now.size hand.now }

@@ -1,2 +1,3 @@
 pub mod ByMask
 pub mod Values
+pub mod SquaredPayments

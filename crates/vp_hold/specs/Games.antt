@@ -1,5 +1,5 @@
 -- What a game is of.
-use Rattle.std.specs.Prelude.{◌≡◌, ℕ, ◌<◌, List, length, slice_index}
+use Rattle.std.specs.Prelude.{◌≡◌, ℕ, ◌*◌, ◌<◌, List, length, slice_index}
 use Rattle.vp_pay.specs.declared.table.PayTable.{PayTable}
 use Rattle.vp_pay.specs.Bets.{IsBet}
 use Rattle.vp_wild.specs.Payment.{pay}
@@ -15,3 +15,9 @@ pub record IsGame (table : PayTable) (coin : ℕ) (scales : List ℕ) (sums : Ta
   pub bet : IsBet table coin
   pub scaled : AreScales table.deck scales
   pub paid : AreSumsOf table.deck (pay table coin) sums
+
+-- the table has the bet, and the sums are those of the squares of its payments to all hands of the deck
+pub record AreSquares (table : PayTable) (coin : ℕ) (scales : List ℕ) (sums : Table) : Type 0 where
+  pub bet : IsBet table coin
+  pub scaled : AreScales table.deck scales
+  pub squared : AreSumsOf table.deck (λ hand. pay table coin hand * pay table coin hand) sums

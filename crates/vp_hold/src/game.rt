@@ -21,10 +21,10 @@ use vp_wild::Steps;
 /// A bet on a pay table, and the sums of the payments of all hands of its deck.
 #[derive(Drop)]
 pub struct Game<'a> {
-    table: &'a PayTable,
-    coin: u8,
-    scales: [u64; 32],
-    sums: SumTable<'a>,
+    pub(crate) table: &'a PayTable,
+    pub(crate) coin: u8,
+    pub(crate) scales: [u64; 32],
+    pub(crate) sums: SumTable<'a>,
 }
 
 impl<'a> Model for Game<'a> {

@@ -4,8 +4,10 @@
 mod game;
 mod payments;
 mod scales;
+mod squares;
 #[cfg(test)]
 mod tests;
 
 pub use game::Game;
+pub use squares::Squares;
 pub use vp_draws::Best;
