@@ -8,4 +8,5 @@ mod scales;
 mod tests;
 
 pub use game::Game;
+pub use scales::hold_scales;
 pub use vp_draws::Best;
