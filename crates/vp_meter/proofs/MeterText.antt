@@ -1,12 +1,9 @@
 -- The parts of a meter, one after the other.
 use Rattle.std.proofs.Common.{◌≡◌, ℕ, ◌+◌, ◌*◌, ◌-◌, ◌^◌, ◌<◌, ◌≤◌, List, [], ◌∷◌, ◌++◌, length, get_or, drop, map, codes, ap, sym, ◌∙◌, arith, append-nil, drop-cons, suc}
-use Rattle.std.specs.Prelude.{flat_map, sum_by, slice_index_or}
-use Rattle.std.specs.Fmt.{decimal}
+use Rattle.std.specs.Prelude.{flat_map, sum_by}
 use Rattle.std.proofs.lemmas.Grind.{flat_map-append}
 use Rattle.std.proofs.lemmas.List.{drop_all}
-use Rattle.vp_card.specs.Texts.{card_text}
-use Rattle.vp_text.specs.Written.{with_word, with_words, line_of, written}
-use Rattle.vp_text.proofs.WithWords.{with_words_append, line_bytes}
+use Rattle.vp_text.specs.Written.{line_of, written}
 use Rattle.vp_suit.specs.Classes.{representatives}
 use Rattle.vp_meter.specs.declared.piece.Piece.{Piece}
 use Rattle.vp_meter.specs.declared.segment.Segment.{Segment}
@@ -14,7 +11,6 @@ use Rattle.vp_meter.specs.Metered.{IsMetering, Metering}
 use Rattle.vp_meter.specs.Pieces.{first_piece, base_in, slope_in, breaks, piece_at, piece_words, pieces}
 use Rattle.vp_meter.specs.Tallies.{AreTallied, told, turns_of}
 use Rattle.vp_meter.specs.Spelling.{class_text, graphs_of, body_text, segment_words}
-use Rattle.vp_pay.specs.declared.table.PayLine.{PayLine}
 use Rattle.vp_meter.proofs.Told.{told_is}
 use Rattle.vp_meter.proofs.MeterGraphs.{are_graphs}
 use Rattle.vp_meter.proofs.MeterSoFar.{class_lines}

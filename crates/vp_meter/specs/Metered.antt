@@ -1,5 +1,5 @@
 -- A pay table with another payment in one line, and what a hand is paid by that line and by the others.
-use Rattle.std.specs.Prelude.{◌≡◌, ℕ, zero, suc, ◌-◌, Bool, false, if◌then◌else◌, ◌==◌, ◌<◌, List, [], ◌∷◌, length, Option, None, Some, slice_set}
+use Rattle.std.specs.Prelude.{ℕ, zero, suc, ◌-◌, Bool, false, if◌then◌else◌, ◌==◌, ◌<◌, List, [], ◌∷◌, length, Option, None, Some, slice_set}
 use Rattle.vp_pay.specs.declared.table.PayLine.{PayLine}
 use Rattle.vp_pay.specs.declared.table.PayTable.{PayTable}
 use Rattle.vp_pay.specs.Bets.{IsBet}

@@ -22,25 +22,20 @@ fn lines_of(holds: [(u8, u64, u64); 4]) -> HoldLines {
     lines
 }
 
-/// Whether the hold in force at each payment is worth as much as any.
-fn is_best(lines: &HoldLines, segments: &[Segment], lo: u32, hi: u32) -> bool {
-    let mut force = Segment::default();
-    for x in lo..hi.saturating_add(1) {
-        for segment in segments {
-            if segment.from == x {
-                force = *segment;
-            }
-        }
-        let here = u128::from(force.base) + u128::from(x) * u128::from(force.slope);
-        for mask in 0..32usize {
-            if u128::from(lines.bases[mask]) + u128::from(x) * u128::from(lines.slopes[mask])
-                > here
-            {
-                return false;
-            }
+/// What a line is worth at `x`.
+fn worth_at(base: u64, slope: u64, x: u32) -> u128 {
+    u128::from(base) + u128::from(x) * u128::from(slope)
+}
+
+/// Whether no hold is worth more at `x` than the last segment that begins there or before.
+fn is_best(lines: &HoldLines, segments: &[Segment], x: u32) -> bool {
+    let mut here = 0;
+    for segment in segments {
+        if segment.from <= x {
+            here = worth_at(segment.base, segment.slope, x);
         }
     }
-    true
+    (0..32usize).all(|mask| worth_at(lines.bases[mask], lines.slopes[mask], x) <= here)
 }
 
 #[test]
@@ -112,7 +107,10 @@ fn segments_of_four_holds(rt: HostRuntime) -> Result<(), Fail> {
             }
         }
         assert_eq!(rt; seen, expected);
-        assert!(rt; is_best(&lines, &found, lo, hi.min(200)));
+        for x in lo..hi.min(200) {
+            assert!(rt; is_best(&lines, &found, x));
+        }
+        assert!(rt; is_best(&lines, &found, hi));
     }
     Ok(())
 }

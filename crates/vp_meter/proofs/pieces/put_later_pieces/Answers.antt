@@ -1,5 +1,5 @@
 use Rattle.std.proofs.Common.{arith, ◌-◌, ◌+◌}
-use Rattle.vp_io.proofs.PutSoFar.{put_more, put_same, put_start, put_halted, put_all}
+use Rattle.vp_io.proofs.PutSoFar.{put_more, put_same, put_halted, put_all}
 use Rattle.vp_meter.proofs.Told.{text_put, text_skipped, text_end}
 use Rattle.vp_meter.proofs.pieces.put_later_pieces.Goals as goal
 use Rattle.vp_meter.proofs.pieces.put_later_pieces.Goals.{then-piece-gt0+in_ok-put_piece, else-piece-gt0}

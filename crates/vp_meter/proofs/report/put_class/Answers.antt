@@ -1,4 +1,4 @@
-use Rattle.vp_io.proofs.Puts_laws.{Puts_then, Puts_stopped}
+use Rattle.vp_io.proofs.Puts_laws.{Puts_then}
 use Rattle.vp_meter.proofs.report.put_class.Goals as goal
 
 pub returns : goal.returns

@@ -1,4 +1,4 @@
-use Rattle.std.proofs.Common.{arith, ap, drop, List}
+use Rattle.std.proofs.Common.{arith}
 use Rattle.vp_io.proofs.PutSoFar.{put_all, put_halted, put_more, put_start}
 use Rattle.vp_meter.proofs.MeterText.{segments_end, segments_next}
 use Rattle.vp_meter.proofs.report.put_segments.Goals as goal

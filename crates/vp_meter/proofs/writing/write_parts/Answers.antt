@@ -2,7 +2,6 @@
 use Rattle.std.proofs.Common.{◌≡◌, ◌+◌, ◌-◌, ◌<◌, ◌∙◌, ap, subst, arith, ℕ, List, map, get_or}
 use Rattle.vp_pay.specs.declared.table.PayTable.{PayTable}
 use Rattle.vp_sets.specs.Sets.{choose}
-use Rattle.vp_count.proofs.Scan.{set_wider}
 use Rattle.vp_count.proofs.HandNumbers.{Moved, Written, written_start, written_room, written_more, written_done, written_whole}
 use Rattle.vp_count.specs.Runs.{run}
 use Rattle.vp_meter.specs.Metered.{base_pay, hit}

@@ -1,5 +1,5 @@
 use Rattle.std.proofs.Common.{refl, arith}
-use Rattle.vp_meter.proofs.MeteredValues.{PartsAre, parts_are, of_bet}
+use Rattle.vp_meter.proofs.MeteredValues.{parts_are, of_bet}
 use Rattle.vp_meter.proofs.metered_bet.Metered.parts.Goals as goal
 
 pub returns-clause-base : goal.returns-clause-base
