@@ -9,7 +9,7 @@ ghost use Rattle.vp_count.specs.Table.{first_word};
 ghost use Rattle.vp_draws.specs.Draws.{best, least_best, masks, ties, value};
 
 use crate::payments::payment_sums;
-use crate::scales::scales;
+use crate::scales::hold_scales;
 use std::marker::{Brand, Model};
 use std::sync::ledger::{Blank, Ledger};
 use vp_card::Hand;
@@ -56,7 +56,7 @@ impl<'a> Game<'a> {
         Game {
             table,
             coin,
-            scales: scales(table.deck),
+            scales: hold_scales(table.deck),
             sums: payment_sums(table, coin, words, steps),
         }
     }

@@ -9,5 +9,6 @@ mod squares;
 mod tests;
 
 pub use game::Game;
+pub use scales::hold_scales;
 pub use squares::Squares;
 pub use vp_draws::Best;

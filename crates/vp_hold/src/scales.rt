@@ -7,7 +7,7 @@ use vp_sets::scale;
 
 /// By what the total of each hold is multiplied, to stand over the common denominator of a deck of `n` cards; the
 /// place of each is its mask.
-pub(crate) fn scales(n: u8) -> [u64; 32]
+pub fn hold_scales(n: u8) -> [u64; 32]
     requires { IsDeck n }
     ensures { AreScales n result }
 {

@@ -1,6 +1,6 @@
 use Rattle.std.proofs.Common.{◌∙◌, length-set}
 use Rattle.vp_hold.proofs.ByMask.{ones_few, scaled_more}
-use Rattle.vp_hold.proofs.scales.scales.Goals as goal
+use Rattle.vp_hold.proofs.scales.hold_scales.Goals as goal
 
 pub overflow_sub-mask : goal.overflow_sub-mask
 overflow_sub-mask c = ones_few c.loop-mask.mask c.loop-mask-test.true

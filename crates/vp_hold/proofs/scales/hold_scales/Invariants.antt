@@ -1,6 +1,6 @@
 use Rattle.std.proofs.Common.{◌≡◌, ◌<◌, ℕ, List, length, get_or}
 use Rattle.vp_sets.specs.Draws.{discarded, scale}
-use Rattle.vp_hold.proofs.scales.scales.Given as goal
+use Rattle.vp_hold.proofs.scales.hold_scales.Given as goal
 
 abbrev pub invariant-loop-mask : goal.invariant-loop-mask
 invariant-loop-mask l = record {

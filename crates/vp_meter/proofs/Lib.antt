@@ -1,0 +1,17 @@
+pub mod Words
+pub mod Graphs
+pub mod Told
+pub mod Straight
+pub mod WholeSums
+pub mod MeteredValues
+pub mod Choices
+pub mod HoldChoices
+pub mod Ahead
+pub mod Tops
+pub mod Walks
+pub mod SegmentLaws
+pub mod Room
+pub mod MeterGraphs
+pub mod MeterSoFar
+pub mod MeterText
+pub mod Exact

@@ -1,0 +1,65 @@
+-- What metered bets obey.
+use Rattle.std.specs.Prelude.{◌≡◌, ℕ, ◌+◌, ◌-◌, ◌*◌, ◌<◌, ◌≤◌, if◌then◌else◌, List, ◌∷◌, length}
+use Rattle.vp_draws.specs.Draws.{best, sum_of_best, value}
+use Rattle.vp_pay.specs.Bets.{IsBet}
+use Rattle.vp_pay.specs.declared.table.PayTable.{PayTable}
+use Rattle.vp_suit.specs.Classes.{IsDeal, representative}
+use Rattle.vp_suit.specs.Turns.{carried, turn}
+use Rattle.vp_wild.specs.Payment.{line, pay}
+use Rattle.vp_meter.specs.declared.piece.Piece.{Piece}
+use Rattle.vp_meter.specs.Metered.{IsMetering, Metering, at_payment, is_line, with_payment}
+use Rattle.vp_meter.specs.Pieces.{in_force, piece_in_force, pieces}
+use Rattle.vp_meter.specs.Spelling.{graph_of, graphs_of}
+
+-- each hand has the same line, whatever the payment
+abbrev pub LinesAreKept : Type 0
+LinesAreKept = (coin place x : ℕ) (table : PayTable) (hand : List ℕ) → line (with_payment table coin place x) hand ≡ line table hand
+
+-- with a payment of at most 500000 the table keeps the rules and limits, and has the bet
+abbrev pub TablesAreKept : Type 0
+TablesAreKept = (coin place x : ℕ) (table : PayTable) → IsBet table coin → x ≤ 500000 → IsBet (with_payment table coin place x) coin
+
+-- a hand of the metered line is paid x, and each other as before
+abbrev pub PaymentsAreChanged : Type 0
+PaymentsAreChanged = (coin place x : ℕ) (table : PayTable) (hand : List ℕ) → IsBet table coin → place < length table.lines.items
+    → pay (with_payment table coin place x) coin hand ≡ (if is_line place (line table hand) then x else pay table coin hand)
+
+-- the value of each hold is a straight line in the payment
+abbrev pub ValuesAreStraight : Type 0
+ValuesAreStraight = (coin place x mask : ℕ) (table : PayTable) (hand : List ℕ) → IsBet table coin → place < length table.lines.items
+    → value (with_payment table coin place x) coin hand mask
+    ≡ value (with_payment table coin place 0) coin hand mask + x * (value (with_payment table coin place 1) coin hand mask - value (with_payment table coin place 0) coin hand mask)
+
+-- the mask in force at x of the class that has this representative
+abbrev pub mask_in_force : Metering → ℕ → ℕ → ℕ → List ℕ → ℕ
+mask_in_force m lo hi x cards = (in_force x (graph_of m lo hi cards).first (graph_of m lo hi cards).later).mask
+
+-- a hold that is played with a deal at x: a turn of the suits makes the deal its representative, and carries the hold to the mask in force
+pub record IsPlayed (m : Metering) (lo hi x : ℕ) (cards : List ℕ) (mask : ℕ) : Type 0 where
+  pub turning : ℕ
+  pub within : turning < 24
+  pub deal : turn turning cards ≡ representative cards
+  pub hold : carried turning cards mask ≡ mask_in_force m lo hi x (representative cards)
+
+-- each deal has such a hold
+pub record PlayedHold (m : Metering) (lo hi x : ℕ) (cards : List ℕ) : Type 0 where
+  pub mask : ℕ
+  pub within : mask < 32
+  pub played : IsPlayed m lo hi x cards mask
+
+abbrev pub HoldsArePlayed : Type 0
+HoldsArePlayed = (m : Metering) (lo hi x : ℕ) (cards : List ℕ) → IsMetering m → lo ≤ x → x ≤ hi → IsDeal m.table.deck cards → PlayedHold m lo hi x cards
+
+-- with the payment x no hold of the deal is worth more
+pub record IsBestAt (m : Metering) (x : ℕ) (cards : List ℕ) (mask : ℕ) : Type 0 where
+  pub best : value (at_payment m x) m.coin cards mask ≡ best (at_payment m x) m.coin cards
+  pub greatest : (other : ℕ) → other < 32 → value (at_payment m x) m.coin cards other ≤ value (at_payment m x) m.coin cards mask
+
+-- at each whole payment from lo to hi each hold that is played is best, for every deal
+abbrev pub PlayedHoldsAreBest : Type 0
+PlayedHoldsAreBest = (m : Metering) (lo hi x mask : ℕ) (cards : List ℕ) → IsMetering m → lo ≤ x → x ≤ hi → IsDeal m.table.deck cards → IsPlayed m lo hi x cards mask → IsBestAt m x cards mask
+
+-- at each whole payment from lo to hi the last piece that begins there or before tells the sum of the best values of all deals
+abbrev pub PiecesAreExact : Type 0
+PiecesAreExact = (m : Metering) (lo hi x : ℕ) (first : Piece) (later : List Piece) → IsMetering m → lo ≤ x → x ≤ hi → pieces lo hi (graphs_of m lo hi) ≡ first ∷ later
+    → (piece_in_force x first later).base + x * (piece_in_force x first later).slope ≡ sum_of_best (at_payment m x) m.coin

@@ -1,0 +1,56 @@
+-- A pay table with another payment in one line, and what a hand is paid by that line and by the others.
+use Rattle.std.specs.Prelude.{ℕ, zero, suc, ◌-◌, Bool, false, if◌then◌else◌, ◌==◌, ◌<◌, List, [], ◌∷◌, length, Option, None, Some, slice_set}
+use Rattle.vp_pay.specs.declared.table.PayLine.{PayLine}
+use Rattle.vp_pay.specs.declared.table.PayTable.{PayTable}
+use Rattle.vp_pay.specs.Bets.{IsBet}
+use Rattle.vp_count.specs.Table.{AreSumsOf, Table}
+use Rattle.vp_hold.specs.Games.{AreScales}
+use Rattle.vp_wild.specs.Payment.{line, pay}
+
+-- a list whose member at a place is changed
+unfoldable pub changed_at : ℕ → (PayLine → PayLine) → List PayLine → List PayLine
+changed_at place f [] = []
+changed_at zero f (l ∷ ls) = f l ∷ ls
+changed_at (suc place) f (l ∷ ls) = l ∷ changed_at place f ls
+
+-- a pay line with x in the column of the bet
+abbrev pub paying : ℕ → ℕ → PayLine → PayLine
+paying coin x l = record l { pays = slice_set l.pays (coin - 1) x }
+
+-- the table with x in the column of the bet, in the line at a place
+unfoldable pub with_payment : PayTable → ℕ → ℕ → ℕ → PayTable
+with_payment table coin place x = record table { lines = record table.lines { items = changed_at place (paying coin x) table.lines.items } }
+
+-- whether a hand's line is the one at the place
+unfoldable pub is_line : ℕ → Option ℕ → Bool
+is_line place None = false
+is_line place (Some found) = found == place
+
+-- what the hand is paid by other lines, and whether it is paid by this one
+abbrev pub base_pay : PayTable → ℕ → ℕ → List ℕ → ℕ
+base_pay table coin place hand = if is_line place (line table hand) then 0 else pay table coin hand
+
+abbrev pub hit : PayTable → ℕ → List ℕ → ℕ
+hit table place hand = if is_line place (line table hand) then 1 else 0
+
+-- a bet, and the line whose payment may change
+pub record Metering : Type 0 where
+  pub table : PayTable
+  pub coin : ℕ
+  pub place : ℕ
+
+-- the table has the bet and the line
+pub record IsMetering (m : Metering) : Type 0 where
+  pub bet : IsBet m.table m.coin
+  pub inside : m.place < length m.table.lines.items
+
+-- the table with the payment x in that line
+abbrev pub at_payment : Metering → ℕ → PayTable
+at_payment m x = with_payment m.table m.coin m.place x
+
+-- the sums of what the hands are paid by other lines, and of how many are paid by this one
+pub record IsMetered (m : Metering) (scales : List ℕ) (others counted : Table) : Type 0 where
+  pub metering : IsMetering m
+  pub scaled : AreScales m.table.deck scales
+  pub base : AreSumsOf m.table.deck (base_pay m.table m.coin m.place) others
+  pub hits : AreSumsOf m.table.deck (hit m.table m.place) counted

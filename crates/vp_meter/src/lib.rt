@@ -1,0 +1,20 @@
+//! Bets whose pay table has one line of which the payment grows: which hold of which deal is best from which payment on,
+//! and what the game returns at every whole payment.
+#![tactic(auto)]
+
+mod hold_lines;
+mod laws;
+mod metered_bet;
+mod piece;
+mod pieces;
+mod report;
+mod segment;
+mod tallies;
+#[cfg(test)]
+mod tests;
+mod writing;
+
+pub use laws::{meters_are_exact, values_are_straight_lines};
+pub use metered_bet::Metered;
+pub use report::meter;
+pub use segment::{Segment, segments};

@@ -1,0 +1,199 @@
+//! A bet whose pay table may change in the payment of one line.
+
+ghost use Rattle.std.specs.Prelude.{◌≡◌, ℕ, ◌+◌, ◌-◌, ◌*◌, ◌^◌, ◌≤◌, ◌<◌, length, slice_index, slice_index_or, map, [], true};
+ghost use Rattle.vp_card.specs.Cards.{IsHand, in_deck};
+ghost use Rattle.vp_count.specs.Sums.{spread};
+ghost use Rattle.vp_count.specs.Table.{first_word};
+ghost use Rattle.vp_draws.specs.Draws.{value};
+ghost use Rattle.vp_meter.specs.Metered.{IsMetering, at_payment};
+ghost use Rattle.vp_meter.specs.Segments.{AreLines, worth};
+ghost use Rattle.vp_pay.specs.Bets.{IsBet};
+ghost use Rattle.vp_sets.specs.Sets.{choose};
+
+use crate::hold_lines::HoldLines;
+use crate::writing::write_parts;
+use std::marker::{Brand, Model};
+use std::sync::ledger::{Blank, Ledger};
+use vp_card::Hand;
+use vp_count::{Reads, SumTable, all_totals, held_total};
+use vp_hold::hold_scales;
+use vp_pay::PayTable;
+use vp_sets::choose;
+use vp_wild::Steps;
+
+/// A bet, a line of its pay table, and two tables of sums: of what the other lines pay, and of how many hands this line
+/// pays. From them comes the value of each hold at every payment of that line.
+#[derive(Drop)]
+pub struct Metered<'a> {
+    table: &'a PayTable,
+    coin: u8,
+    place: u8,
+    scales: [u64; 32],
+    base: SumTable<'a>,
+    hits: SumTable<'a>,
+}
+
+impl<'a> Model for Metered<'a> {
+    ghost use Rattle.vp_meter.specs.Metered.{IsMetered, Metering};
+
+    ghost Value = { Metering };
+
+    ghost view = { λ m. record { table = m.table.now; coin = m.coin; place = m.place } };
+
+    ghost invariant = { λ m. IsMetered (record { table = m.table.now; coin = m.coin; place = m.place }) m.scales m.base m.hits };
+}
+
+impl<'a> Metered<'a> {
+    /// Ranks every hand of the deck once, and makes both tables of sums in `base` and `hits`, which may hold any numbers.
+    /// `line` is the place of the line, from 0. One step of the counter for each hand.
+    pub fn fill<L: Ledger>(
+        table: &'a PayTable,
+        coin: u8,
+        line: u8,
+        base: &'a mut [u64],
+        hits: &'a mut [u64],
+        steps: &mut Steps<L>,
+    ) -> Metered<'a>
+        requires bet { IsBet table.now coin }
+        requires inside { line < length table.now.lines.items }
+        requires long { length base.old ≡ first_word table.now.deck 6 }
+        requires also { length hits.old ≡ first_word table.now.deck 6 }
+        ensures table { result.table ≡ table.now }
+        ensures coin { result.coin ≡ coin }
+        ensures line { result.place ≡ line }
+        ensures steps { steps.new ≡ steps.old + choose table.now.deck 5 }
+    {
+        let hands = choose(table.deck, 5) as usize;
+        let first = base.len() - hands;
+        let numbers = &mut base[first..];
+        let hit_numbers = &mut hits[first..];
+        write_parts(table, coin, line, numbers, hit_numbers, steps);
+        Metered {
+            table,
+            coin,
+            place: line,
+            scales: hold_scales(table.deck),
+            base: SumTable::fill(table.deck, base),
+            hits: SumTable::fill(table.deck, hits),
+        }
+    }
+
+    /// The metered bet; the hands are not counted. `base` and `hits` may hold any numbers.
+    pub fn of(
+        table: &'a PayTable,
+        coin: u8,
+        line: u8,
+        base: &'a mut [u64],
+        hits: &'a mut [u64],
+    ) -> Metered<'a>
+        requires bet { IsBet table.now coin }
+        requires inside { line < length table.now.lines.items }
+        requires long { length base.old ≡ first_word table.now.deck 6 }
+        requires also { length hits.old ≡ first_word table.now.deck 6 }
+        ensures table { result.table ≡ table.now }
+        ensures coin { result.coin ≡ coin }
+        ensures line { result.place ≡ line }
+    {
+        metered_of::<Brand>(table, coin, line, base, hits, Blank::new(1))
+    }
+
+    /// The pay table, with the payment that it has.
+    pub(crate) fn table(&self) -> &PayTable
+        ensures table { result.now ≡ self.now.table }
+        ensures metering { IsMetering self.now }
+    {
+        self.table
+    }
+
+    /// The number of coins bet.
+    pub(crate) fn coin(&self) -> u8
+        ensures { result ≡ self.now.coin }
+    {
+        self.coin
+    }
+
+    /// The name of the line.
+    pub(crate) fn name(&self) -> &[u8]
+        ensures name { result.now ≡ slice_index_or (map (λ line. line.name) self.now.table.lines.items) self.now.place [] }
+        ensures short { length result.now ≤ 24 }
+    {
+        self.table.lines[self.place as usize].name.text()
+    }
+
+    /// The value of a hold where the line pays nothing, and by how much it rises for each further unit of the line's
+    /// payment, both over the common denominator of the deck.
+    pub fn parts(&self, hand: &Hand, mask: u8) -> (u64, u64)
+        requires cards { in_deck self.now.table.deck hand.now ≡ true }
+        requires mask { mask < 32 }
+        ensures base { result.0 ≡ value (at_payment self.now 0) self.now.coin hand.now mask }
+        ensures slope { result.0 + result.1 ≡ value (at_payment self.now 1) self.now.coin hand.now mask }
+        // With the payment x in the line the hold is worth the first number and x times the second.
+        ensures value { (x : ℕ) → value (at_payment self.now x) self.now.coin hand.now mask ≡ result.0 + x * result.1 }
+    {
+        let factor = self.scales[mask as usize];
+        let base = total_in(&self.base, hand, mask);
+        let hits = total_in(&self.hits, hand, mask);
+        (base * factor, hits * factor)
+    }
+
+    /// The lines of all 32 holds of a hand; the totals of each table are taken at once.
+    pub(crate) fn lines(&self, hand: &Hand) -> HoldLines
+        requires { in_deck self.now.table.deck hand.now ≡ true }
+        ensures { AreLines (worth self.now hand.now) result }
+    {
+        HoldLines {
+            bases: values_in(&self.base, &self.scales, hand),
+            slopes: values_in(&self.hits, &self.scales, hand),
+        }
+    }
+}
+
+/// The totals of all holds in a table of sums, each times its scale.
+fn values_in(sums: &SumTable, scales: &[u64; 32], hand: &Hand) -> [u64; 32]
+    requires cards { in_deck sums.now.size hand.now ≡ true }
+    requires small { IsHand hand.now → (mask : ℕ) → mask < 32 → spread sums.now.size sums.now.numbers hand.now mask * slice_index scales.now mask < 2 ^ 64 }
+    ensures values { (mask : ℕ) → mask < 32 → slice_index result mask ≡ spread sums.now.size sums.now.numbers hand.now mask * slice_index scales.now mask }
+    ensures hand { IsHand hand.now }
+{
+    let mut reads = Reads::new(&*sums);
+    let mut values = all_totals(&mut reads, &hand.numbers());
+    for mask in 0..32usize {
+        values[mask] *= scales[mask];
+    }
+    values
+}
+
+/// The sum of the numbers of the final hands of all draws of a hold.
+fn total_in(sums: &SumTable, hand: &Hand, mask: u8) -> u64
+    requires cards { in_deck sums.now.size hand.now ≡ true }
+    requires mask { mask < 32 }
+    ensures total { result ≡ spread sums.now.size sums.now.numbers hand.now mask }
+    ensures hand { IsHand hand.now }
+{
+    let mut reads = Reads::new(&*sums);
+    held_total(&mut reads, &hand.numbers(), mask)
+}
+
+/// The metered bet; the blank is for a counter that nobody reads.
+fn metered_of<'a, L: Ledger>(
+    table: &'a PayTable,
+    coin: u8,
+    line: u8,
+    base: &'a mut [u64],
+    hits: &'a mut [u64],
+    blank: Blank,
+) -> Metered<'a>
+    requires bet { IsBet table.now coin }
+    requires inside { line < length table.now.lines.items }
+    requires long { length base.old ≡ first_word table.now.deck 6 }
+    requires also { length hits.old ≡ first_word table.now.deck 6 }
+    requires name { blank.name ≡ L.name }
+    requires parts { blank.parts ≡ L.parts }
+    requires share { 0 < blank.parts }
+    ensures table { result.table ≡ table.now }
+    ensures coin { result.coin ≡ coin }
+    ensures line { result.place ≡ line }
+{
+    let mut steps = Steps::<L>::new(blank);
+    Metered::fill(table, coin, line, base, hits, &mut steps)
+}
