@@ -125,7 +125,7 @@ module _ (table : PayTable) (coin : ℕ) (list : RuleList) (seen : List (List �
       ∙ sym (one_changed f g k 0 (length list.rules) (omega arith) others high)
       )
 
-sums_is : (o1 o2 l1 l2 g1 g2 a1 a2 : ℕ) (e1 e2 n1 n2 : Tally) (r1 r2 : List Tally) → o1 ≡ o2 → l1 ≡ l2 → g1 ≡ g2 → a1 ≡ a2 → e1 ≡ e2 → r1 ≡ r2 → n1 ≡ n2
+pub sums_is : (o1 o2 l1 l2 g1 g2 a1 a2 : ℕ) (e1 e2 n1 n2 : Tally) (r1 r2 : List Tally) → o1 ≡ o2 → l1 ≡ l2 → g1 ≡ g2 → a1 ≡ a2 → e1 ≡ e2 → r1 ≡ r2 → n1 ≡ n2
     → ◌≡◌ {A = Sums} (record { optimum = o1; least = l1; greatest = g1; ambiguous = a1; except = e1; rules = record { items = r1 }; none = n1 })
     (record { optimum = o2; least = l2; greatest = g2; ambiguous = a2; except = e2; rules = record { items = r2 }; none = n2 })
 sums_is o1 o2 l1 l2 g1 g2 a1 a2 e1 e2 n1 n2 r1 r2 o l g a e r n = rw (o, l, g, a, e, r, n) refl

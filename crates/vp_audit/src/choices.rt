@@ -1,8 +1,10 @@
 //! The 32 holds of a hand with their values, and what rules and exceptions make of them.
 
-ghost use Rattle.std.specs.Prelude.{◌≡◌, ◌+◌, ◌<◌, ◌≤◌, IfSome, None, length, max, true};
+ghost use Rattle.std.specs.Prelude.{◌≡◌, ◌+◌, ◌<◌, ◌≤◌, IfSome, None, length, max, position, true};
 ghost use Rattle.vp_card.specs.Cards.{in_deck};
+ghost use Rattle.vp_rank.specs.Bounded.{some_below};
 ghost use Rattle.vp_draws.specs.Draws.{best, greatest, value};
+ghost use Rattle.vp_rule.specs.Holds.{matches};
 ghost use Rattle.vp_audit.specs.Choices.{least_or_empty, widened};
 ghost use Rattle.vp_audit.specs.Sums.{priced};
 ghost use Rattle.vp_audit.specs.Values.{deciding, matched};
@@ -108,8 +110,7 @@ impl<'a> Choices<'a> {
         ensures place { result ≡ deciding self.now.table rules.now self.now.hand }
         ensures inside { IfSome result (λ i. i < length rules.now) }
     {
-        let holds = &self.holds;
-        rules.iter().position(|rule| holds.some_is_matched(rule))
+        first_matching(&self.holds, rules)
     }
 
     /// The least and the greatest value of the holds that the rule matches; the greatest number and 0 where it matches none.
@@ -143,6 +144,14 @@ impl<'a> Choices<'a> {
     {
         self.values[mask as usize]
     }
+}
+
+/// The place of the first rule that matches some of the holds.
+fn first_matching(holds: &Holds, rules: &[Rule]) -> Option<usize>
+    ensures place { result ≡ position (λ rule. some_below 32 (λ mask. matches holds.now.table rule holds.now.hand mask)) rules.now }
+    ensures inside { IfSome result (λ i. i < length rules.now) }
+{
+    rules.iter().position(|rule| holds.some_is_matched(rule))
 }
 
 /// The least and the greatest of some values, with one value more where it counts.

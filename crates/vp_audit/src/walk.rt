@@ -1,8 +1,9 @@
 //! The audit of a list: a walk over all classes of deals.
 
-ghost use Rattle.std.specs.Prelude.{◌≡◌, ◌+◌, ◌++◌, [], IfNone, is_some, length, option_to_list};
+ghost use Rattle.std.specs.Prelude.{◌≡◌, ◌+◌, ◌++◌, ◌≤◌, [], IfNone, is_some, length, option_to_list};
 ghost use Rattle.vp_sets.specs.Index.{set_index};
 ghost use Rattle.vp_suit.specs.Classes.{representatives};
+ghost use Rattle.vp_pay.specs.Table.{IsTable};
 ghost use Rattle.vp_rule.specs.Valid.{IsList};
 ghost use Rattle.vp_audit.specs.Audits.{audited};
 ghost use Rattle.vp_audit.specs.Pending.{behind_head, head_mask};
@@ -44,6 +45,8 @@ pub fn audit<L: Ledger>(game: &Game, list: &List, steps: &mut Steps<L>) -> Audit
 /// The sums over all classes.
 fn walk<L: Ledger>(game: &Game, list: &List, steps: &mut Steps<L>) -> Sums
     requires { IsList game.now.table list.now }
+    ensures rules { IsTable game.now.table }
+    ensures below { result.least ≤ result.optimum }
     ensures sums { result ≡ sums_over game.now.table game.now.coin list.now (representatives game.now.table.deck) }
     ensures steps { steps.new ≡ steps.old + length (representatives game.now.table.deck) }
 {

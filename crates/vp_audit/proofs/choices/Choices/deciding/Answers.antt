@@ -7,6 +7,6 @@ use Rattle.vp_audit.proofs.choices.Choices.deciding.Goals as goal
 pub returns-clause-place : goal.returns-clause-place
 returns-clause-place c =
     let i = c.self.inside in
-    c.position.ensures.place
+    c.first_matching.ensures.place
     ∙ deciding_is i.holds.table c.args.rules.now i.holds.hand
     ∙ ap (λ (x : BetHand). deciding x.table c.args.rules.now x.hand) c.self.view_is
