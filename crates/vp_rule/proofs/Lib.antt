@@ -1,9 +1,12 @@
 pub mod Answered
 pub mod CardsGrammar
+pub mod Inputs
 pub mod Items
 pub mod Kept
 pub mod ListsGrammar
+pub mod PlainLists
 pub mod Rows
 pub mod RuleWords
 pub mod RulesGrammar
 pub mod TestsGrammar
+pub mod Versions

@@ -1,4 +1,5 @@
 pub mod Holds
+pub mod Inputs
 pub mod Kept
 pub mod Lists
 pub mod Reading
