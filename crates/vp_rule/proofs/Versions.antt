@@ -20,7 +20,7 @@ test_of_2 version table (Count set least most) is = is
 test_of_2 version table (Equal k) is = is
 test_of_2 version table (Ranks k) is = is
 test_of_2 version table (Made place) is = is
-test_of_2 version table (Left set k) is = (refl, is.1)
+test_of_2 version table (Left set k) is = (refl, is.1, is.2)
 test_of_2 version table (LeftSuit k) is = (refl, is.1)
 
 tests_of_2 : (version : ℕ) (table : PayTable) (tests : List Test) → AllByRecursion (IsTest version table) tests → AllByRecursion (IsTest 2 table) tests
