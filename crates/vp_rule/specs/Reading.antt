@@ -183,10 +183,11 @@ version_line key = one_line (version_of key)
 
 -- ---- lists
 
+-- the exceptions in front of the first rule
 abbrev pub exceptions_of : List Item → List Exception
 exceptions_of [] = []
 exceptions_of (inl exception ∷ items) = exception ∷ exceptions_of items
-exceptions_of (inr rule ∷ items) = exceptions_of items
+exceptions_of (inr rule ∷ items) = []
 
 abbrev pub rules_of : List Item → List Rule
 rules_of [] = []

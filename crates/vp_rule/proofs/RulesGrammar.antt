@@ -1,0 +1,131 @@
+-- Rules and exceptions: each is read from its words, and from no others.
+use Rattle.std.proofs.Common.{◌≡◌, ℕ, zero, suc, ◌+◌, ◌<◌, ◌≤◌, Bool, true, false, cond, ◌&&◌, nat_lt, List, [], ◌∷◌, ◌++◌, map, length, refl, sym, ap, subst, ◌∙◌, arith, Some, None, Option}
+use Rattle.std.specs.Prelude.{codes, flat_map}
+use Rattle.std.specs.Fmt.{decimal}
+use Rattle.std.specs.List.{AllByRecursion}
+use Rattle.std.proofs.lemmas.Bool.{lt-ltb, ltb-true}
+use Rattle.std.proofs.lemmas.List.Elements.{All-from_recursion}
+use Rattle.vp_card.specs.Cards.{IsDeck, in_deck}
+use Rattle.vp_card.specs.Texts.{card_text}
+use Rattle.vp_card.specs.Reading.{card_of}
+use Rattle.vp_text.specs.Lines.{Word}
+use Rattle.vp_text.specs.Pieces.{AreUpTo, so_many, up_to_end}
+use Rattle.vp_text.specs.ExactReaders.{ExactText}
+use Rattle.vp_text.proofs.Numbers.{number_within_exact}
+use Rattle.vp_text.proofs.Pieces.{at_end, both_true, bound, chosen, no_value, so, took, Exact-key_word, Exact-one_word, Exact-so_many}
+use Rattle.vp_text.proofs.UpTo.{Exact-up_to_end}
+use Rattle.vp_pay.proofs.Deals.{Exact-card}
+use Rattle.vp_pay.proofs.Tables.{of_all}
+use Rattle.vp_pay.specs.Table.{IsTable}
+use Rattle.vp_pay.specs.declared.table.PayTable.{PayTable}
+use Rattle.vp_suit.specs.Classes.{IsDeal, is_representative}
+use Rattle.vp_rule.specs.Lists.{Exception}
+use Rattle.vp_rule.specs.Reading.{digit, rises, standing, exception_of, rule_from, rule_of, test_behind}
+use Rattle.vp_rule.specs.Spelling.{except_words, rule_words, test_words}
+use Rattle.vp_rule.specs.Valid.{IsTest, IsRule, IsException}
+use Rattle.vp_rule.specs.declared.rule.Rule.{Rule}
+use Rattle.vp_rule.specs.declared.rule.Test.{Test}
+use Rattle.vp_rule.proofs.CardsGrammar.{rises-increasing, increasing-rises}
+use Rattle.vp_rule.proofs.TestsGrammar.{Exact-test}
+
+-- ---- rules
+
+module _ (version : ℕ) (table : PayTable) (is_table : IsTable table) where
+  -- the tests of a rule
+  Exact-tests : ExactText (flat_map (test_words table)) (AreUpTo (IsTest version table) 8) (up_to_end 8 (test_behind version table))
+  Exact-tests = Exact-up_to_end (test_words table) (IsTest version table) (test_behind version table) (Exact-test version table is_table) 8
+
+  of_tests : (words : List Word) (tests : List Test) (rule : Rule) → AreUpTo (IsTest version table) 8 tests → flat_map (test_words table) tests ≡ words → rule_from tests ≡ Some rule
+      → IsRule version table rule × (flat_map (test_words table) rule.tests.items ≡ words)
+  of_tests words [] rule are said read = absurd (no_value rule read)
+  of_tests words (test ∷ tests) rule are said read =
+      so (λ r. IsRule version table r × (flat_map (test_words table) r.tests.items ≡ words)) (record { tests = record { items = test ∷ tests } }) rule read
+      (record { tests = All-from_recursion (IsTest version table) (test ∷ tests) are.all; some = omega arith; most = are.count }, said)
+
+  rule_taken : (words : List Word) (rule : Rule) → rule_of version table words ≡ Some rule → IsRule version table rule × (rule_words table rule ≡ words)
+  unfolding rule_of rule_words
+  rule_taken words rule read =
+      let key = bound _ _ _ read in
+      let tests = bound _ _ _ key.then in
+      let k = took (Exact-key_word (codes "rule")) words key.value key.first in
+      let t = Exact-tests.takes key.value.1 tests.value tests.first in
+      let r = of_tests key.value.1 tests.value rule t.0 t.1 tests.then in
+      (r.0, ap (λ (ws : List Word). codes "rule" ∷ ws) r.1 ∙ sym k.front)
+
+  tests_back : (tests : List Test) → 1 ≤ length tests → rule_from tests ≡ Some (record { tests = record { items = tests } })
+  tests_back [] some = absurd (omega arith)
+  tests_back (test ∷ tests) some = refl
+
+  rule_again : (rule : Rule) → IsRule version table rule → rule_of version table (rule_words table rule) ≡ Some rule
+  unfolding rule_of rule_words
+  rule_again rule is =
+      let tests = Exact-tests.again rule.tests.items (record { count = is.most; all = of_all (IsTest version table) rule.tests.items is.tests }) in
+      rw tests (tests_back rule.tests.items is.some)
+
+  pub Exact-rule : ExactText (rule_words table) (IsRule version table) (rule_of version table)
+  Exact-rule = record { takes = λ words rule read. rule_taken words rule read; again = λ rule is. rule_again rule is }
+
+-- ---- exceptions
+
+all_below : (n : ℕ) (cards : List ℕ) → in_deck n cards ≡ true → AllByRecursion (λ card. card < n) cards
+all_below n [] is = tt
+all_below n (card ∷ cards) is =
+    let parts = both_true (nat_lt card n) (in_deck n cards) is in
+    (ltb-true card n parts.0, all_below n cards parts.1)
+
+below_all : (n : ℕ) (cards : List ℕ) → AllByRecursion (λ card. card < n) cards → in_deck n cards ≡ true
+below_all n [] all = refl
+below_all n (card ∷ cards) all = rw (lt-ltb card n all.0) (below_all n cards all.1)
+
+below_more : (n m : ℕ) (cards : List ℕ) → n ≤ m → AllByRecursion (λ card. card < n) cards → AllByRecursion (λ card. card < m) cards
+below_more n m [] most all = tt
+below_more n m (card ∷ cards) most all = (omega (arith, all.0), below_more n m cards most all.1)
+
+rising_deal : (n : ℕ) (cards : List ℕ) → length cards ≡ 5 → rises cards ≡ true → in_deck n cards ≡ true → IsDeal n cards
+rising_deal n cards five rise below = record {
+  five = five;
+  set = record { rising = rises-increasing cards rise; below = All-from_recursion (λ card. card < n) cards (all_below n cards below) };
+}
+
+Exact-mask : ExactText decimal (λ mask. (0 ≤ mask) × (mask ≤ 31)) (digit 31)
+Exact-mask = number_within_exact 0 31 (omega arith)
+
+exception_joined : (words w1 w2 w3 : List Word) (key : Word) (cards : List Word) (mask : Word) → words ≡ key ∷ w1 → w1 ≡ cards ++ w2 → w2 ≡ mask ∷ w3 → w3 ≡ [] → key ∷ cards ++ mask ∷ [] ≡ words
+exception_joined words w1 w2 w3 key cards mask e1 e2 e3 e4 = rw (e1, e2, e3, e4)
+
+exception_taken : (n : ℕ) (words : List Word) (e : Exception) → exception_of n words ≡ Some e → IsException n e × (except_words e ≡ words)
+unfolding exception_of except_words
+exception_taken n words e read =
+    let key = bound _ _ _ read in
+    let cards = bound _ _ _ key.then in
+    let mask = bound _ _ _ cards.then in
+    let made = bound _ _ _ mask.then in
+    let end = at_end _ _ _ made.first in
+    let k = took (Exact-key_word (codes "except")) words key.value key.first in
+    let c = took (Exact-so_many Exact-card 5) key.value.1 cards.value cards.first in
+    let m = took (Exact-one_word Exact-mask) cards.value.1 mask.value mask.first in
+    let l : Exception = (cards.value.0, mask.value.0) in
+    let P : Exception → Type 0 = λ e. IsException n e × (except_words e ≡ words) in
+    let then : standing n l ≡ Some e = ap (standing n) end.1 ∙ made.then in
+    chosen P ((rises l.0 && in_deck n l.0) && is_representative l.0) (Some l) None e then
+    (λ is x.
+    let both = both_true (rises l.0 && in_deck n l.0) (is_representative l.0) is in
+    let parts = both_true (rises l.0) (in_deck n l.0) both.0 in
+    so P l e x (
+      record { deal = rising_deal n l.0 c.valid.count parts.0 parts.1; representative = both.1; mask = omega (arith, m.valid.1) },
+      exception_joined words _ _ _ (codes "except") (map card_text cards.value.0) (decimal mask.value.0) k.front c.front m.front end.0,
+    ))
+    (λ none. absurd (no_value e none))
+
+exception_again : (n : ℕ) (e : Exception) → IsDeck n → IsException n e → exception_of n (except_words e) ≡ Some e
+unfolding exception_of except_words
+exception_again n e deck is =
+    let below = of_all (λ card. card < n) e.0 is.deal.set.below in
+    let rest : List Word = decimal e.1 ∷ [] in
+    let cards : so_many card_of 5 (map card_text e.0 ++ rest) ≡ Some (e.0, rest) =
+    (Exact-so_many Exact-card 5).again rest e.0 (record { count = is.deal.five; all = below_more n 54 e.0 deck.1 below }) refl in
+    let mask : digit 31 (decimal e.1) ≡ Some e.1 = Exact-mask.again e.1 (omega arith, omega (arith, is.mask)) in
+    rw (cards, mask, increasing-rises e.0 is.deal.set.rising, below_all n e.0 below, is.representative)
+
+pub Exact-exception : (n : ℕ) → IsDeck n → ExactText except_words (IsException n) (exception_of n)
+Exact-exception n deck = record { takes = λ words e read. exception_taken n words e read; again = λ e is. exception_again n e deck is }

@@ -1,0 +1,19 @@
+use Rattle.std.proofs.Common.{rules}
+use Rattle.vp_text.proofs.Standing.{leaves_next}
+use Rattle.vp_rule.proofs.reading.pool_rules.Goals as goal
+
+pub returns-then-is_empty-clause-leaves : goal.returns-then-is_empty-clause-leaves
+returns-then-is_empty-clause-leaves c = leaves_next _ _ _ _ c.loop-words.invariant.leaves c.in-Some.ensures.next.0 c.in-Some.ensures.next.1 c.in-Some.ensures.past
+
+pub returns-then-only_is-clause-leaves : goal.returns-then-only_is-clause-leaves
+returns-then-only_is-clause-leaves c = leaves_next _ _ _ _ c.loop-words.invariant.leaves c.in-Some.ensures.next.0 c.in-Some.ensures.next.1 c.in-Some.ensures.past
+
+pub returns-in_default-next_rule-clause-leaves : goal.returns-in_default-next_rule-clause-leaves
+returns-in_default-next_rule-clause-leaves c = leaves_next _ _ _ _ c.loop-words.invariant.leaves c.in-Some.ensures.next.0 c.in-Some.ensures.next.1 c.in-Some.ensures.past
+
+pub loop-words-preserved : goal.loop-words-preserved
+loop-words-preserved c = record {
+  so_far = search rules;
+  past = search rules;
+  leaves = leaves_next _ _ _ _ c.loop-words.invariant.leaves c.in-Some.ensures.next.0 c.in-Some.ensures.next.1 c.in-Some.ensures.past;
+}
