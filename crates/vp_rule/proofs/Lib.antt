@@ -1,11 +1,14 @@
 pub mod Answered
 pub mod CardsGrammar
 pub mod HeldRight
-pub mod TurnedRules
+pub mod Inputs
 pub mod Items
 pub mod Kept
 pub mod ListsGrammar
+pub mod PlainLists
 pub mod Rows
 pub mod RuleWords
 pub mod RulesGrammar
 pub mod TestsGrammar
+pub mod TurnedRules
+pub mod Versions

@@ -1,5 +1,6 @@
 pub mod ByCounts
 pub mod Holds
+pub mod Inputs
 pub mod Kept
 pub mod Lists
 pub mod Matching

@@ -11,6 +11,7 @@ mod pool;
 mod reading;
 mod rule;
 mod rule_words;
+mod spellings;
 mod test_words;
 mod writing;
 
@@ -23,3 +24,7 @@ pub use list::List;
 pub use matching::{Holds, matches};
 pub use pool::Pool;
 pub use rule::{Rule, Test};
+pub use spellings::{
+    list_inputs_are_read, list_spellings_differ, pool_inputs_are_read, pool_spellings_differ,
+    rules_are_of_version_2, written_lists_are_read, written_pools_are_read,
+};

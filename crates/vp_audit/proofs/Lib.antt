@@ -1,0 +1,10 @@
+pub mod Bounds
+pub mod Charges
+pub mod Decisions
+pub mod Extremes
+pub mod KeptValues
+pub mod Lookups
+pub mod SoFar
+pub mod Start
+pub mod SumsMore
+pub mod Totals

@@ -1,0 +1,24 @@
+-- The holds of a hand, with their values.
+use Rattle.std.specs.Prelude.{◌≡◌, ℕ, Bool, true, false, List, [], ◌∷◌, max, min}
+use Rattle.vp_pay.specs.declared.table.PayTable.{PayTable}
+use Rattle.vp_audit.specs.Values.{least}
+
+-- a hand that is dealt for a bet on a table
+pub record BetHand : Type 0 where
+  pub table : PayTable
+  pub coin : ℕ
+  pub hand : List ℕ
+
+-- the greatest number of 64 bits, above all values
+abbrev pub empty : ℕ
+empty = 18446744073709551615
+
+-- the least of the numbers that f gives for a list, and the greatest number of 64 bits for none
+abbrev pub least_or_empty : (ℕ → ℕ) → List ℕ → ℕ
+least_or_empty f [] = empty
+least_or_empty f (mask ∷ masks) = least f (mask ∷ masks)
+
+-- the least and the greatest of some numbers, with one number more where it counts
+abbrev pub widened : ℕ × ℕ → Bool → ℕ → ℕ × ℕ
+widened e true n = (min e.0 n, max e.1 n)
+widened e false n = e

@@ -1,0 +1,6 @@
+pub mod Values
+pub mod Audits
+pub mod Sums
+pub mod Pending
+pub mod Choices
+pub mod Laws

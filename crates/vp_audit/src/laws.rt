@@ -1,0 +1,19 @@
+//! Laws of lists and their values, each the contract of a function that does nothing.
+
+ghost use Rattle.std.specs.Prelude.{◌≡◌, ◌↔◌, ℕ, ◌<◌, ◌≤◌, List};
+ghost use Rattle.vp_pay.specs.declared.table.PayTable.{PayTable};
+ghost use Rattle.vp_suit.specs.Classes.{IsDeal};
+ghost use Rattle.vp_suit.specs.Turns.{turn};
+ghost use Rattle.vp_rule.specs.Lists.{RuleList};
+ghost use Rattle.vp_rule.specs.declared.rule.Rule.{Rule};
+ghost use Rattle.vp_audit.specs.Laws.{Allows};
+ghost use Rattle.vp_audit.specs.Values.{decided, greatest_value, least_value};
+
+/// The values of the holds that a rule matches are the same for all deals of a class, which are what the turns of the
+/// suits make of each other; and so is what decides a deal, and what a list is charged for it.
+pub fn rules_are_priced_by_classes()
+    ensures values { (t coin worth : ℕ) (table : PayTable) (rule : Rule) (cards : List ℕ) → 52 ≤ table.deck → t < 24 → IsDeal table.deck cards → Allows table coin rule (turn t cards) worth ↔ Allows table coin rule cards worth }
+    ensures decided { (t : ℕ) (table : PayTable) (list : RuleList) (cards : List ℕ) → 52 ≤ table.deck → t < 24 → IsDeal table.deck cards → decided table list (turn t cards) ≡ decided table list cards }
+    ensures least { (t coin : ℕ) (table : PayTable) (list : RuleList) (cards : List ℕ) → 52 ≤ table.deck → t < 24 → IsDeal table.deck cards → least_value table coin list (turn t cards) ≡ least_value table coin list cards }
+    ensures greatest { (t coin : ℕ) (table : PayTable) (list : RuleList) (cards : List ℕ) → 52 ≤ table.deck → t < 24 → IsDeal table.deck cards → greatest_value table coin list (turn t cards) ≡ greatest_value table coin list cards }
+{}

@@ -1,0 +1,13 @@
+//! What a strategy list loses against the best holds, over all deals.
+#![tactic(auto)]
+
+mod audited;
+mod choices;
+mod laws;
+mod priced;
+mod sums;
+mod walk;
+
+pub use audited::{Audited, Tally};
+pub use laws::rules_are_priced_by_classes;
+pub use walk::audit;

@@ -1,0 +1,6 @@
+use Rattle.vp_text.proofs.Sections.{spelling_unique}
+use Rattle.vp_rule.proofs.ListsGrammar.{Exact-list}
+use Rattle.vp_rule.proofs.spellings.list_spellings_differ.Goals as goal
+
+pub returns : goal.returns
+returns c = λ table is_table a b x y is_a is_b same. let s = spelling_unique (Exact-list table is_table) a b x y is_a is_b same in (s.value, s.rest)
