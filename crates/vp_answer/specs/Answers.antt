@@ -4,7 +4,7 @@ use Rattle.std.specs.Fmt.{decimal}
 use Rattle.vp_text.specs.Lines.{Word}
 use Rattle.vp_text.specs.Written.{line_of}
 use Rattle.vp_answer.specs.declared.rule.Rule.{Rule}
-use Rattle.vp_answer.specs.declared.rule.Rule.TheVariants.{Order, Weight, Value, Mask, Cover, Sum, Denominator}
+use Rattle.vp_answer.specs.declared.rule.Rule.TheVariants.{Order, Weight, Value, Mask, Cover, Sum, Denominator, Bet, Funds, Deal, Hold, Count, Draw, Pay, Credits}
 use Rattle.vp_answer.specs.declared.status.Status.{Status}
 use Rattle.vp_answer.specs.declared.status.Status.TheVariants.{Done, Finding, Refused}
 use Rattle.vp_answer.specs.declared.stop.Stop.{Stop}
@@ -32,6 +32,14 @@ rule_word Mask = codes "mask"
 rule_word Cover = codes "cover"
 rule_word Sum = codes "sum"
 rule_word Denominator = codes "denominator"
+rule_word Bet = codes "bet"
+rule_word Funds = codes "funds"
+rule_word Deal = codes "deal"
+rule_word Hold = codes "hold"
+rule_word Count = codes "count"
+rule_word Draw = codes "draw"
+rule_word Pay = codes "pay"
+rule_word Credits = codes "credits"
 
 -- a broken rule: where it is broken, the rule, the number that stands there, and the number due
 unfoldable pub finding_words : ℕ → Rule → ℕ → ℕ → List Word

@@ -19,6 +19,22 @@ pub enum Rule {
     Sum,
     /// The denominator is the number of deals, times the common denominator of the deck, times the bet.
     Denominator,
+    /// A game's bet is one that the table has.
+    Bet,
+    /// The bet is within the credits before the game.
+    Funds,
+    /// The dealt cards differ.
+    Deal,
+    /// The held cards are dealt ones, and differ.
+    Hold,
+    /// Held and drawn cards are five.
+    Count,
+    /// The drawn cards are none of the dealt ones, and differ.
+    Draw,
+    /// The pay is what the table pays for the held and drawn cards.
+    Pay,
+    /// The credits are those before the game, less the bet, plus the pay.
+    Credits,
 }
 
 impl Rule {
@@ -38,6 +54,14 @@ impl Rule {
             Rule::Cover => b"cover",
             Rule::Sum => b"sum",
             Rule::Denominator => b"denominator",
+            Rule::Bet => b"bet",
+            Rule::Funds => b"funds",
+            Rule::Deal => b"deal",
+            Rule::Hold => b"hold",
+            Rule::Count => b"count",
+            Rule::Draw => b"draw",
+            Rule::Pay => b"pay",
+            Rule::Credits => b"credits",
         }
     }
 }
