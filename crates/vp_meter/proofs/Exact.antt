@@ -11,7 +11,7 @@ use Rattle.vp_suit.proofs.Deals.{deal_rises}
 use Rattle.vp_suit.proofs.Representatives.{represented}
 use Rattle.vp_meter.specs.declared.piece.Piece.{Piece}
 use Rattle.vp_meter.specs.Metered.{IsMetering, Metering, at_payment, with_payment}
-use Rattle.vp_meter.specs.Laws.{IsBestAt, IsPlayed, PlayedHold, mask_in_force}
+use Rattle.vp_meter.specs.Laws.{IsBestAt, IsPlayed, MetersTellEveryDeal, PlayedHold, mask_in_force}
 use Rattle.vp_meter.specs.Pieces.{in_force, piece_in_force, pieces}
 use Rattle.vp_meter.specs.Segments.{worth}
 use Rattle.vp_meter.specs.Spelling.{graph_of, graphs_of}
@@ -66,3 +66,11 @@ played_best m lo hi x mask cards bet from to deal is =
     ap (value t m.coin (representative cards)) is.hold ∙ optimal m lo hi x (representative cards) from to in
     let here : value t m.coin cards mask ≡ best t m.coin cards = best_by_representative is.turning mask m.coin t cards bet.bet.rules.known_deck.0 is.within deal is.deal there in
     record { best = here; greatest = λ other small. subst (λ v. value t m.coin cards other ≤ v) (sym here) (value_le_best t m.coin cards other small) }
+
+-- a meter tells every deal
+pub meter_tells : MetersTellEveryDeal
+meter_tells m lo hi bet = record {
+  every = λ x cards from to deal. played m lo hi x cards bet from to deal;
+  holds = λ x mask cards from to deal is. played_best m lo hi x mask cards bet from to deal is;
+  sums = λ x first later from to is. exact m lo hi x first later bet from to is;
+}

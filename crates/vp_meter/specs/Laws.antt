@@ -41,25 +41,24 @@ pub record IsPlayed (m : Metering) (lo hi x : ℕ) (cards : List ℕ) (mask : �
   pub deal : turn turning cards ≡ representative cards
   pub hold : carried turning cards mask ≡ mask_in_force m lo hi x (representative cards)
 
--- each deal has such a hold
+-- there is such a hold
 pub record PlayedHold (m : Metering) (lo hi x : ℕ) (cards : List ℕ) : Type 0 where
   pub mask : ℕ
   pub within : mask < 32
   pub played : IsPlayed m lo hi x cards mask
-
-abbrev pub HoldsArePlayed : Type 0
-HoldsArePlayed = (m : Metering) (lo hi x : ℕ) (cards : List ℕ) → IsMetering m → lo ≤ x → x ≤ hi → IsDeal m.table.deck cards → PlayedHold m lo hi x cards
 
 -- with the payment x no hold of the deal is worth more
 pub record IsBestAt (m : Metering) (x : ℕ) (cards : List ℕ) (mask : ℕ) : Type 0 where
   pub best : value (at_payment m x) m.coin cards mask ≡ best (at_payment m x) m.coin cards
   pub greatest : (other : ℕ) → other < 32 → value (at_payment m x) m.coin cards other ≤ value (at_payment m x) m.coin cards mask
 
--- at each whole payment from lo to hi each hold that is played is best, for every deal
-abbrev pub PlayedHoldsAreBest : Type 0
-PlayedHoldsAreBest = (m : Metering) (lo hi x mask : ℕ) (cards : List ℕ) → IsMetering m → lo ≤ x → x ≤ hi → IsDeal m.table.deck cards → IsPlayed m lo hi x cards mask → IsBestAt m x cards mask
+-- a meter tells every deal, at each whole payment from lo to hi: each deal has a hold that is played, and each such hold is best; and the
+-- last piece that begins there or before tells the sum of the best values of all deals
+pub record TellsMeter (m : Metering) (lo hi : ℕ) : Type 0 where
+  pub every : (x : ℕ) (cards : List ℕ) → lo ≤ x → x ≤ hi → IsDeal m.table.deck cards → PlayedHold m lo hi x cards
+  pub holds : (x mask : ℕ) (cards : List ℕ) → lo ≤ x → x ≤ hi → IsDeal m.table.deck cards → IsPlayed m lo hi x cards mask → IsBestAt m x cards mask
+  pub sums : (x : ℕ) (first : Piece) (later : List Piece) → lo ≤ x → x ≤ hi → pieces lo hi (graphs_of m lo hi) ≡ first ∷ later
+      → (piece_in_force x first later).base + x * (piece_in_force x first later).slope ≡ sum_of_best (at_payment m x) m.coin
 
--- at each whole payment from lo to hi the last piece that begins there or before tells the sum of the best values of all deals
-abbrev pub PiecesAreExact : Type 0
-PiecesAreExact = (m : Metering) (lo hi x : ℕ) (first : Piece) (later : List Piece) → IsMetering m → lo ≤ x → x ≤ hi → pieces lo hi (graphs_of m lo hi) ≡ first ∷ later
-    → (piece_in_force x first later).base + x * (piece_in_force x first later).slope ≡ sum_of_best (at_payment m x) m.coin
+abbrev pub MetersTellEveryDeal : Type 0
+MetersTellEveryDeal = (m : Metering) (lo hi : ℕ) → IsMetering m → TellsMeter m lo hi
