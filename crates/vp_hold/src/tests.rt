@@ -7,6 +7,7 @@ ghost use Rattle.vp_count.specs.Table.{first_word};
 
 mod deals;
 mod jobs;
+mod squared;
 mod tables;
 mod walked;
 
