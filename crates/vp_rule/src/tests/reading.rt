@@ -68,7 +68,11 @@ fn rule_lines(rt: HostRuntime) -> Result<(), Fail> {
     let table = PayTable::in_text(ONE_JOKER).ok_or("a table")?;
     let cases: [(&[u8], bool, bool); 22] = [
         (b"rule hold 0", true, true),
-        (b"rule hold 5 hold 5 hold 5 hold 5 hold 5 hold 5 hold 5 hold 5", true, true),
+        (
+            b"rule hold 5 hold 5 hold 5 hold 5 hold 5 hold 5 hold 5 hold 5",
+            true,
+            true,
+        ),
         (
             b"rule hold 0 hold 0 hold 0 hold 0 hold 0 hold 0 hold 0 hold 0 hold 0",
             false,
@@ -120,7 +124,10 @@ fn exception_lines(rt: HostRuntime) -> Result<(), Fail> {
             b"list\nexcept 2c 2h 3c 3d Jo 16\nexcept 2c 2h 3c 3d Jo 16\nrule hold 0\nend\n",
             3,
         ),
-        (b"list\nexcept 2c 2h 3c 3d Jo 16\nexcept 2c 2d 2h 2s 3c 15\nend\n", 3),
+        (
+            b"list\nexcept 2c 2h 3c 3d Jo 16\nexcept 2c 2d 2h 2s 3c 15\nend\n",
+            3,
+        ),
         (b"list\nrule hold 0\nexcept 2c 2h 3c 3d Jo 16\nend\n", 3),
         (b"list\nexcept 2h 2c 3c 3d Jo 16\nend\n", 2),
         (b"list\nexcept 2c 2h 3c 3d Jo 32\nend\n", 2),
@@ -161,12 +168,16 @@ fn most_rules(rt: HostRuntime) -> Result<(), Fail> {
 #[test]
 fn what_is_read(rt: HostRuntime) -> Result<(), Fail> {
     let table = PayTable::in_text(ONE_JOKER).ok_or("a table")?;
-    let text = b"list 2\nexcept 2c 2d 2h 2s 3c 15\nexcept 2c 2h 3c 3d Jo 16\nrule hold 1 made joker\nrule left any 4\nend\npool\nrule royal\nend\n";
+    let text =
+        b"list 2\nexcept 2c 2d 2h 2s 3c 15\nexcept 2c 2h 3c 3d Jo 16\nrule hold 1 made joker\nrule left any 4\nend\npool\nrule royal\nend\n";
     let mut lines = Lines::new(text);
     let list = List::read(&mut lines, &table).map_err(|_| "a list")?;
     assert_eq!(rt; list.version(), 2);
     assert_eq!(rt; list.rules().len(), 2);
-    assert_eq!(rt; list.rules()[0].tests.as_slice(), [Test::Hold(1), Test::Made(0)].as_slice());
+    assert_eq!(rt;
+        list.rules()[0].tests.as_slice(),
+        [Test::Hold(1), Test::Made(0)].as_slice()
+    );
     let mut exceptions = list.exceptions();
     let (hand, mask) = exceptions.next().ok_or("an exception")?;
     assert_eq!(rt; (hand.numbers(), mask), ([0, 1, 2, 3, 4], 15));
