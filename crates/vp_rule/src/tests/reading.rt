@@ -1,6 +1,7 @@
 //! The lines of lists and pools.
 
 ghost use Rattle.std.specs.Prelude.{◌≤◌, length};
+ghost use Rattle.vp_pay.specs.Table.{IsTable};
 
 use crate::{List, Pool, Test};
 use arrayvec::ArrayVec;
@@ -11,7 +12,8 @@ use vp_text::Lines;
 
 /// The line at which a text is refused as a list, and 0 where it is read.
 fn refused_list(table: &PayTable, text: &[u8]) -> u32
-    requires { length text.now ≤ 67108864 }
+    requires table { IsTable table.now }
+    requires short { length text.now ≤ 67108864 }
 {
     match List::read(&mut Lines::new(text), table) {
         Ok(_) => 0,
@@ -21,7 +23,8 @@ fn refused_list(table: &PayTable, text: &[u8]) -> u32
 
 /// The line at which a text is refused as a pool, and 0 where it is read.
 fn refused_pool(table: &PayTable, text: &[u8]) -> u32
-    requires { length text.now ≤ 67108864 }
+    requires table { IsTable table.now }
+    requires short { length text.now ≤ 67108864 }
 {
     match Pool::read(&mut Lines::new(text), table) {
         Ok(_) => 0,
