@@ -13,10 +13,9 @@ mod rule;
 mod rule_words;
 mod spellings;
 mod test_words;
-mod writing;
-
 #[cfg(test)]
 mod tests;
+mod writing;
 
 pub use exceptions::Exceptions;
 pub use laws::rules_are_kept_by_turns;

@@ -1,6 +1,7 @@
 //! The lines of lists and pools.
 
 ghost use Rattle.std.specs.Prelude.{◌≤◌, length};
+ghost use Rattle.vp_pay.specs.Table.{IsTable};
 
 use crate::{List, Pool, Test};
 use arrayvec::ArrayVec;
@@ -11,7 +12,8 @@ use vp_text::Lines;
 
 /// The line at which a text is refused as a list, and 0 where it is read.
 fn refused_list(table: &PayTable, text: &[u8]) -> u32
-    requires { length text.now ≤ 67108864 }
+    requires table { IsTable table.now }
+    requires short { length text.now ≤ 67108864 }
 {
     match List::read(&mut Lines::new(text), table) {
         Ok(_) => 0,
@@ -21,7 +23,8 @@ fn refused_list(table: &PayTable, text: &[u8]) -> u32
 
 /// The line at which a text is refused as a pool, and 0 where it is read.
 fn refused_pool(table: &PayTable, text: &[u8]) -> u32
-    requires { length text.now ≤ 67108864 }
+    requires table { IsTable table.now }
+    requires short { length text.now ≤ 67108864 }
 {
     match Pool::read(&mut Lines::new(text), table) {
         Ok(_) => 0,
@@ -68,7 +71,11 @@ fn rule_lines(rt: HostRuntime) -> Result<(), Fail> {
     let table = PayTable::in_text(ONE_JOKER).ok_or("a table")?;
     let cases: [(&[u8], bool, bool); 22] = [
         (b"rule hold 0", true, true),
-        (b"rule hold 5 hold 5 hold 5 hold 5 hold 5 hold 5 hold 5 hold 5", true, true),
+        (
+            b"rule hold 5 hold 5 hold 5 hold 5 hold 5 hold 5 hold 5 hold 5",
+            true,
+            true,
+        ),
         (
             b"rule hold 0 hold 0 hold 0 hold 0 hold 0 hold 0 hold 0 hold 0 hold 0",
             false,
@@ -120,7 +127,10 @@ fn exception_lines(rt: HostRuntime) -> Result<(), Fail> {
             b"list\nexcept 2c 2h 3c 3d Jo 16\nexcept 2c 2h 3c 3d Jo 16\nrule hold 0\nend\n",
             3,
         ),
-        (b"list\nexcept 2c 2h 3c 3d Jo 16\nexcept 2c 2d 2h 2s 3c 15\nend\n", 3),
+        (
+            b"list\nexcept 2c 2h 3c 3d Jo 16\nexcept 2c 2d 2h 2s 3c 15\nend\n",
+            3,
+        ),
         (b"list\nrule hold 0\nexcept 2c 2h 3c 3d Jo 16\nend\n", 3),
         (b"list\nexcept 2h 2c 3c 3d Jo 16\nend\n", 2),
         (b"list\nexcept 2c 2h 3c 3d Jo 32\nend\n", 2),
@@ -161,12 +171,16 @@ fn most_rules(rt: HostRuntime) -> Result<(), Fail> {
 #[test]
 fn what_is_read(rt: HostRuntime) -> Result<(), Fail> {
     let table = PayTable::in_text(ONE_JOKER).ok_or("a table")?;
-    let text = b"list 2\nexcept 2c 2d 2h 2s 3c 15\nexcept 2c 2h 3c 3d Jo 16\nrule hold 1 made joker\nrule left any 4\nend\npool\nrule royal\nend\n";
+    let text =
+        b"list 2\nexcept 2c 2d 2h 2s 3c 15\nexcept 2c 2h 3c 3d Jo 16\nrule hold 1 made joker\nrule left any 4\nend\npool\nrule royal\nend\n";
     let mut lines = Lines::new(text);
     let list = List::read(&mut lines, &table).map_err(|_| "a list")?;
     assert_eq!(rt; list.version(), 2);
     assert_eq!(rt; list.rules().len(), 2);
-    assert_eq!(rt; list.rules()[0].tests.as_slice(), [Test::Hold(1), Test::Made(0)].as_slice());
+    assert_eq!(rt;
+        list.rules()[0].tests.as_slice(),
+        [Test::Hold(1), Test::Made(0)].as_slice()
+    );
     let mut exceptions = list.exceptions();
     let (hand, mask) = exceptions.next().ok_or("an exception")?;
     assert_eq!(rt; (hand.numbers(), mask), ([0, 1, 2, 3, 4], 15));

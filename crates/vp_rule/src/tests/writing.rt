@@ -1,6 +1,6 @@
 //! The lines of strategy cards, written as they were read.
 
-use crate::List;
+use crate::{List, rules_are_of_version_2};
 use arrayvec::ArrayVec;
 use std::test::*;
 use vp_io::{MemSink, WriteFault};
@@ -30,12 +30,15 @@ fn usual_lines(rt: HostRuntime) -> Result<(), Fail> {
         text.try_extend_from_slice(line)?;
         text.try_extend_from_slice(b"end\n")?;
         let list = List::read(&mut Lines::new(&text), &table).map_err(|_| "a list")?;
+        let rules = list.rules();
+        assert_eq!(rt; rules.len(), 1);
+        rules_are_of_version_2();
         let mut room = [0; 256];
         let mut sink = MemSink::new(&mut room, 100, &[]);
-        assert_eq!(rt; list.rules()[0].write(&table, &mut sink), Ok(()));
+        assert_eq!(rt; rules[0].write(&table, &mut sink), Ok(()));
         assert_eq!(rt; sink.taken(), line);
         let mut sink = MemSink::new(&mut room, 7, &[2]);
-        assert_eq!(rt; list.rules()[0].write(&table, &mut sink), Err(WriteFault));
+        assert_eq!(rt; rules[0].write(&table, &mut sink), Err(WriteFault));
         assert_eq!(rt; sink.taken(), &line[..7]);
     }
     Ok(())
