@@ -11,11 +11,10 @@ use Rattle.vp_card.proofs.InDeck.{in_deck-in_order}
 use Rattle.vp_card.proofs.Rising.{times-append, times-same}
 use Rattle.vp_loggram.specs.Logs.{is_of_deck}
 use Rattle.vp_loggram.specs.declared.event.Event.{Event}
-use Rattle.vp_replay.specs.declared.rule.Breach.{Breach}
 use Rattle.vp_replay.specs.declared.rule.LogRule.{LogRule}
 use Rattle.vp_replay.specs.declared.rule.LogRule.TheVariants.{Deal, Hold, Count, Draw}
 use Rattle.vp_replay.specs.Rules.{among, broken_if, cards_breach, count_breach, deal_breach, draw_breach, first_of, first_wrong, hold_breach, misplaced, wrong_deal, wrong_draw, wrong_hold}
-use Rattle.vp_replay.specs.Costs.{hold_of, mask_of}
+use Rattle.vp_replay.specs.Costs.{hold_of}
 use Rattle.vp_replay.specs.LawfulGames.{AreLawfulCards}
 use Rattle.vp_replay.proofs.Masking.{right_once, none_among, some_among, among_none, holds}
 

@@ -1,16 +1,14 @@
 -- The laws of games, game by game.
-use Rattle.std.proofs.Common.{◌≡◌, ℕ, ◌+◌, ◌-◌, ◌<◌, ◌≤◌, Bool, true, false, not, List, [], ◌∷◌, length, refl, sym, ap, ◌∙◌, arith, Some, None}
+use Rattle.std.proofs.Common.{◌≡◌, ℕ, ◌+◌, ◌-◌, ◌≤◌, true, false, not, List, [], ◌∷◌, refl, sym, ◌∙◌, arith, Some, None}
 use Rattle.std.specs.Prelude.{Option, ◌||◌, ◌==◌, nat_lt}
 use Rattle.std.proofs.lemmas.Bool.{eqb-true, le-ltb, ltb-false, not-false}
-use Rattle.std.proofs.lemmas.Bool.Decides.{nat_tests}
 use Rattle.vp_pay.specs.declared.table.PayTable.{PayTable}
-use Rattle.vp_loggram.specs.Logs.{LogValue}
 use Rattle.vp_loggram.specs.declared.event.Event.{Event}
 use Rattle.vp_replay.specs.declared.rule.Breach.{Breach}
 use Rattle.vp_replay.specs.declared.rule.Broken.{Broken}
 use Rattle.vp_replay.specs.declared.rule.LogRule.TheVariants.{Bet, Funds, Pay, Credits}
-use Rattle.vp_replay.specs.Rules.{bet_breach, break_in, break_of, broken_if, cards_breach, credits_breach, first_break, first_of, funds_breach, or_later, paid, pay_breach}
-use Rattle.vp_replay.specs.LawfulGames.{AreLawfulGames, IsLawfulEvent, IsLawfulGame}
+use Rattle.vp_replay.specs.Rules.{bet_breach, break_of, cards_breach, credits_breach, first_break, first_of, funds_breach, or_later, paid, pay_breach}
+use Rattle.vp_replay.specs.LawfulGames.{AreLawfulGames, IsLawfulGame}
 use Rattle.vp_replay.proofs.LawfulCards.{first_none, kept_cards, kept_if, lawful_cards, none_first, or_first, or_second, rest_none, right_count, unbroken}
 
 -- ---- one more game

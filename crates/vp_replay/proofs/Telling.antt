@@ -1,5 +1,5 @@
 -- The text that is told of a log, and that no costs are shown where they are not to be.
-use Rattle.std.proofs.Common.{◌≡◌, ℕ, ◌+◌, Bool, true, false, List, [], ◌∷◌, ◌++◌, refl, ap, sym, ◌∙◌}
+use Rattle.std.proofs.Common.{◌≡◌, ℕ, ◌+◌, true, false, List, [], ◌∷◌, ◌++◌, refl}
 use Rattle.std.proofs.lemmas.Grind.{flat_map-append}
 use Rattle.vp_text.specs.Written.{line_of, written}
 use Rattle.vp_pay.specs.declared.table.PayTable.{PayTable}
