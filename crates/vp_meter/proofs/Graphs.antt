@@ -8,7 +8,7 @@ use Rattle.std.proofs.lemmas.List.Elements.{All-head, All-tail}
 use Rattle.vp_meter.specs.declared.segment.Segment.{Segment}
 use Rattle.vp_meter.specs.declared.tallies.Turn.{Turn}
 use Rattle.vp_meter.specs.Pieces.{Graph, climbs, in_force, base_in, slope_in, begins_at, classes_at, deals_at}
-use Rattle.vp_meter.specs.Tallies.{at_turn, begun, turns_from, turns_of}
+use Rattle.vp_meter.specs.Tallies.{at_turn, begun, change, turns_from, turns_of}
 
 -- what two neighbours keep
 pub record Climb (s t : Segment) (ts : List Segment) : Type 0 where
@@ -65,9 +65,6 @@ record Step (x w : ℕ) (s : Segment) (ts : List Segment) : Type 0 where
 
 place : (a b : ℕ) → (a < b) ⊎ ((a ≡ b) ⊎ (b < a))
 place a b = grind arith
-
-abbrev pub change : ℕ → Segment → Segment → Turn
-change w s t = record { from = t.from; weight = w; lost = w * (s.base - t.base); gained = w * (t.slope - s.slope) }
 
 pub turns-cons : (w : ℕ) (s t : Segment) (ts : List Segment) → turns_from w s (t ∷ ts) ≡ change w s t ∷ turns_from w t ts
 unfolding turns_from

@@ -8,8 +8,8 @@ use Rattle.std.proofs.lemmas.Grind.{flat_map-append}
 use Rattle.vp_meter.specs.declared.segment.Segment.{Segment}
 use Rattle.vp_meter.specs.declared.tallies.Turn.{Turn}
 use Rattle.vp_meter.specs.Pieces.{Graph, base_in, slope_in, climbs}
-use Rattle.vp_meter.specs.Tallies.{Added, AreTallied, HasRoom, at_turn, turns_from, turns_of}
-use Rattle.vp_meter.proofs.Graphs.{Climbing, at_turn-append, at_turn-cons, change, climb, no_turn_ahead, steps}
+use Rattle.vp_meter.specs.Tallies.{change, Added, AreTallied, HasRoom, at_turn, turns_from, turns_of}
+use Rattle.vp_meter.proofs.Graphs.{Climbing, at_turn-append, at_turn-cons, climb, no_turn_ahead, steps}
 
 -- a number of each turn that is at most its weight is at most what the turn gains
 few_turns : (f : Turn → ℕ) (x w : ℕ) (s : Segment) (ts : List Segment) → ((a b : Segment) → f (change w a b) ≤ w) → climbs s ts ≡ true

@@ -8,7 +8,7 @@ use Rattle.vp_text.specs.Written.{written, line_of}
 use Rattle.vp_meter.specs.declared.piece.Piece.{Piece}
 use Rattle.vp_meter.specs.declared.tallies.Turn.{Turn}
 use Rattle.vp_meter.specs.Pieces.{Graph, base_in, slope_in, classes_at, deals_at, piece_at, breaks, piece_in_force, piece_words}
-use Rattle.vp_meter.specs.Tallies.{AreTallied, at_turn, begun, turns_of, told}
+use Rattle.vp_meter.specs.Tallies.{AreTallied, at_turn, begun, next_piece, turns_of, told}
 use Rattle.vp_meter.proofs.Graphs.{Climbing, begun_is, dealt_is, steps}
 
 -- the payments behind x: the next, if a segment begins there, and the others
@@ -127,9 +127,6 @@ force_tells graphs x y (suc room) p climbing from to h =
     ]
 
 -- ---- as the loop reads them
-
-abbrev pub next_piece : ℕ → List ℕ → ℕ → ℕ → ℕ → Piece
-next_piece lo counts i base slope = record { from = lo + (i + 1); classes = slice_index counts (4 * (i + 1)); deals = slice_index counts (4 * (i + 1) + 1); base = base - slice_index counts (4 * (i + 1) + 2); slope = slope + slice_index counts (4 * (i + 1) + 3) }
 
 told_more : (lo : ℕ) (counts : List ℕ) (i base slope room : ℕ) (b : Bool) (p : Piece) → p ≡ next_piece lo counts i base slope → nat_lt 0 p.classes ≡ b
     → told lo counts i base slope (suc room) ≡ (if b then p ∷ told lo counts (i + 1) p.base p.slope room else told lo counts (i + 1) p.base p.slope room)

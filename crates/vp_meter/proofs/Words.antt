@@ -7,9 +7,9 @@ use Rattle.vp_meter.specs.declared.tallies.Turn.{Turn}
 use Rattle.std.specs.List.{All}
 use Rattle.std.proofs.lemmas.List.Elements.{All-get_or}
 use Rattle.vp_meter.specs.declared.segment.Segment.{Segment}
-use Rattle.vp_meter.proofs.Graphs.{at_turn-append, turn_here, turns-cons, change, climb}
+use Rattle.vp_meter.proofs.Graphs.{at_turn-append, turn_here, turns-cons, climb}
 use Rattle.vp_meter.specs.Pieces.{climbing}
-use Rattle.vp_meter.specs.Tallies.{Added, HasRoom, at_turn, turns_from, turns_in}
+use Rattle.vp_meter.specs.Tallies.{change, Added, HasRoom, at_turn, turns_from, turns_in}
 
 -- four words from 4 * k on are written
 abbrev four_set : List ℕ → ℕ → ℕ → ℕ → ℕ → ℕ → List ℕ

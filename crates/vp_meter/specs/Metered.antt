@@ -1,8 +1,9 @@
 -- A pay table with another payment in one line, and what a hand is paid by that line and by the others.
-use Rattle.std.specs.Prelude.{ℕ, zero, suc, ◌-◌, Bool, false, if◌then◌else◌, ◌==◌, ◌<◌, List, [], ◌∷◌, length, Option, None, Some, slice_set}
+use Rattle.std.specs.Prelude.{ℕ, zero, suc, ◌-◌, ◌*◌, Bool, false, if◌then◌else◌, ◌==◌, ◌<◌, List, [], ◌∷◌, length, map, slice_index, slice_index_or, Option, None, Some, slice_set}
 use Rattle.vp_pay.specs.declared.table.PayLine.{PayLine}
 use Rattle.vp_pay.specs.declared.table.PayTable.{PayTable}
 use Rattle.vp_pay.specs.Bets.{IsBet}
+use Rattle.vp_count.specs.Sums.{spread}
 use Rattle.vp_count.specs.Table.{AreSumsOf, Table}
 use Rattle.vp_hold.specs.Games.{AreScales}
 use Rattle.vp_wild.specs.Payment.{line, pay}
@@ -39,6 +40,10 @@ pub record Metering : Type 0 where
   pub coin : ℕ
   pub place : ℕ
 
+-- the name of that line
+abbrev pub line_name : Metering → List ℕ
+line_name m = slice_index_or (map (λ line. line.name) m.table.lines.items) m.place []
+
 -- the table has the bet and the line
 pub record IsMetering (m : Metering) : Type 0 where
   pub bet : IsBet m.table m.coin
@@ -54,3 +59,7 @@ pub record IsMetered (m : Metering) (scales : List ℕ) (others counted : Table)
   pub scaled : AreScales m.table.deck scales
   pub base : AreSumsOf m.table.deck (base_pay m.table m.coin m.place) others
   pub hits : AreSumsOf m.table.deck (hit m.table m.place) counted
+
+-- the sum over the draws of a hold, times its scale
+abbrev pub scaled_sum : Table → List ℕ → List ℕ → ℕ → ℕ
+scaled_sum sums scales hand mask = spread sums.size sums.numbers hand mask * slice_index scales mask

@@ -65,6 +65,17 @@ pub record AreLines (w : ℕ → ℕ → ℕ) (lines : HoldLines) : Type 0 where
 abbrev pub at : HoldLines → ℕ → ℕ → ℕ
 at lines x mask = slice_index lines.bases mask + x * slice_index lines.slopes mask
 
+-- what a segment is worth at x, and where it begins
+abbrev pub height : Segment → ℕ → ℕ
+height s x = s.base + x * s.slope
+
+abbrev pub own_height : Segment → ℕ
+own_height s = height s s.from
+
+-- the segment of a hold that begins at x
+abbrev pub line_at : HoldLines → ℕ → ℕ → Segment
+line_at lines x mask = record { from = x; mask = mask; base = slice_index lines.bases mask; slope = slice_index lines.slopes mask }
+
 -- the segment has the line of its hold, and no hold is worth more where it begins
 pub record IsTop (lines : HoldLines) (s : Segment) : Type 0 where
   pub hold : s.mask < 32

@@ -1,12 +1,12 @@
 -- The text of a meter.
-use Rattle.std.specs.Prelude.{ℕ, ◌-◌, List, [], ◌∷◌, ◌++◌, map, flat_map, slice_index_or, codes}
+use Rattle.std.specs.Prelude.{ℕ, ◌-◌, List, [], ◌∷◌, ◌++◌, map, flat_map, codes}
 use Rattle.std.specs.Fmt.{decimal}
 use Rattle.vp_card.specs.Texts.{card_text}
 use Rattle.vp_text.specs.Lines.{Word}
 use Rattle.vp_text.specs.Sections.{Text}
 use Rattle.vp_suit.specs.Classes.{representatives, weight}
 use Rattle.vp_meter.specs.declared.segment.Segment.{Segment}
-use Rattle.vp_meter.specs.Metered.{Metering}
+use Rattle.vp_meter.specs.Metered.{Metering, line_name}
 use Rattle.vp_meter.specs.Segments.{choice, later, segment_at, segments, worth}
 use Rattle.vp_meter.specs.Pieces.{Graph, piece_words, pieces}
 
@@ -33,7 +33,7 @@ class_text m lo hi cards = class_words cards (weight cards) ∷ map segment_word
 
 -- the first line: the bet, the name of the line, and the range
 unfoldable pub head_words : Metering → ℕ → ℕ → List Word
-head_words m lo hi = codes "meter" ∷ decimal m.coin ∷ slice_index_or (map (λ line. line.name) m.table.lines.items) m.place [] ∷ decimal lo ∷ decimal hi ∷ []
+head_words m lo hi = codes "meter" ∷ decimal m.coin ∷ line_name m ∷ decimal lo ∷ decimal hi ∷ []
 
 -- what stands behind the first line: the classes, the pieces, and `end`
 unfoldable pub body_text : Metering → ℕ → ℕ → Text

@@ -5,10 +5,14 @@ use Rattle.vp_meter.specs.declared.piece.Piece.{Piece}
 use Rattle.vp_meter.specs.declared.tallies.Turn.{Turn}
 use Rattle.vp_meter.specs.Pieces.{Graph}
 
+-- what changes where a class of so many deals goes from one segment to the next
+abbrev pub change : ℕ → Segment → Segment → Turn
+change w s t = record { from = t.from; weight = w; lost = w * (s.base - t.base); gained = w * (t.slope - s.slope) }
+
 -- what changes where each segment behind s begins
 unfoldable pub turns_from : ℕ → Segment → List Segment → List Turn
 turns_from w s [] = []
-turns_from w s (t ∷ ts) = record { from = t.from; weight = w; lost = w * (s.base - t.base); gained = w * (t.slope - s.slope) } ∷ turns_from w t ts
+turns_from w s (t ∷ ts) = change w s t ∷ turns_from w t ts
 
 abbrev pub turns_of : Graph → List Turn
 turns_of g = turns_from g.weight g.first g.later
@@ -47,6 +51,16 @@ pub record HasRoom (lo : ℕ) (turns : List Turn) (counts : List ℕ) : Type 0 w
   pub deals : (i : ℕ) → 4 * i + 3 < length counts → slice_index counts (4 * i + 1) + at_turn (λ t. t.weight) (lo + i) turns < 2 ^ 64
   pub lost : (i : ℕ) → 4 * i + 3 < length counts → slice_index counts (4 * i + 2) + at_turn (λ t. t.lost) (lo + i) turns < 2 ^ 64
   pub gained : (i : ℕ) → 4 * i + 3 < length counts → slice_index counts (4 * i + 3) + at_turn (λ t. t.gained) (lo + i) turns < 2 ^ 64
+
+-- the piece that the words behind place i tell, where these are the sums before
+abbrev pub next_piece : ℕ → List ℕ → ℕ → ℕ → ℕ → Piece
+next_piece lo counts i base slope = record {
+  from = lo + (i + 1);
+  classes = slice_index counts (4 * (i + 1));
+  deals = slice_index counts (4 * (i + 1) + 1);
+  base = base - slice_index counts (4 * (i + 1) + 2);
+  slope = slope + slice_index counts (4 * (i + 1) + 3);
+}
 
 -- the pieces that the words behind place i tell, where these are the sums before
 unfoldable pub told : ℕ → List ℕ → ℕ → ℕ → ℕ → ℕ → List Piece

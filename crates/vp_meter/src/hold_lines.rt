@@ -1,7 +1,7 @@
 //! The lines of all holds of a hand, and which of them is highest.
 
 ghost use Rattle.std.specs.Prelude.{◌≡◌, ℕ, ◌+◌, ◌*◌, ◌<◌, ◌≤◌, slice_index, length};
-ghost use Rattle.vp_meter.specs.Segments.{AreLines, IsTop, StaysTo, at, segment_at, segments};
+ghost use Rattle.vp_meter.specs.Segments.{AreLines, IsTop, StaysTo, height, line_at, own_height, segment_at, segments};
 
 use crate::Segment;
 use arrayvec::ArrayVec;
@@ -47,7 +47,7 @@ fn choice_at(lines: &HoldLines, x: u32) -> Segment
 /// The line of a hold, from `x` on.
 fn line_of(lines: &HoldLines, x: u32, mask: u8) -> Segment
     requires { mask < 32 }
-    ensures { result ≡ record { from = x; mask = mask; base = slice_index lines.now.bases mask; slope = slice_index lines.now.slopes mask } }
+    ensures { result ≡ line_at lines.now x mask }
 {
     Segment {
         from: x,
@@ -59,17 +59,17 @@ fn line_of(lines: &HoldLines, x: u32, mask: u8) -> Segment
 
 /// What a segment is worth where it begins.
 fn worth(segment: &Segment) -> u128
-    ensures { result ≡ segment.now.base + segment.now.from * segment.now.slope }
+    ensures { result ≡ own_height segment.now }
 {
     u128::from(segment.base) + u128::from(segment.from) * u128::from(segment.slope)
 }
 
 /// The next line where it is worth more, or as much and is steeper.
 fn better(best: Segment, next: Segment) -> Segment
-    ensures more { best.base + best.from * best.slope < next.base + next.from * next.slope → result ≡ next }
-    ensures steeper { best.base + best.from * best.slope ≡ next.base + next.from * next.slope → best.slope < next.slope → result ≡ next }
-    ensures same { best.base + best.from * best.slope ≡ next.base + next.from * next.slope → next.slope ≤ best.slope → result ≡ best }
-    ensures less { next.base + next.from * next.slope < best.base + best.from * best.slope → result ≡ best }
+    ensures more { own_height best < own_height next → result ≡ next }
+    ensures steeper { own_height best ≡ own_height next → best.slope < next.slope → result ≡ next }
+    ensures same { own_height best ≡ own_height next → next.slope ≤ best.slope → result ≡ best }
+    ensures less { own_height next < own_height best → result ≡ best }
 {
     let now = worth(&best);
     let then_worth = worth(&next);
@@ -96,11 +96,11 @@ fn stays_to(lines: &HoldLines, segment: &Segment, hi: u32) -> u32
 /// The last payment up to `hi` at which the other line is not above the segment.
 fn stays_below(segment: &Segment, base: u64, slope: u64, hi: u32) -> u32
     requires from { segment.now.from ≤ hi }
-    requires below { base + segment.now.from * slope ≤ segment.now.base + segment.now.from * segment.now.slope }
+    requires below { base + segment.now.from * slope ≤ own_height segment.now }
     ensures from { segment.now.from ≤ result }
     ensures to { result ≤ hi }
-    ensures stays { (x : ℕ) → segment.now.from ≤ x → x ≤ result → base + x * slope ≤ segment.now.base + x * segment.now.slope }
-    ensures ends { result < hi → segment.now.base + (result + 1) * segment.now.slope < base + (result + 1) * slope }
+    ensures stays { (x : ℕ) → segment.now.from ≤ x → x ≤ result → base + x * slope ≤ height segment.now x }
+    ensures ends { result < hi → height segment.now (result + 1) < base + (result + 1) * slope }
 {
     if slope <= segment.slope {
         return hi;

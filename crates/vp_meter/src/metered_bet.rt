@@ -5,7 +5,7 @@ ghost use Rattle.vp_card.specs.Cards.{IsHand, in_deck};
 ghost use Rattle.vp_count.specs.Sums.{spread};
 ghost use Rattle.vp_count.specs.Table.{first_word};
 ghost use Rattle.vp_draws.specs.Draws.{value};
-ghost use Rattle.vp_meter.specs.Metered.{IsMetering, at_payment};
+ghost use Rattle.vp_meter.specs.Metered.{IsMetering, at_payment, line_name, scaled_sum};
 ghost use Rattle.vp_meter.specs.Segments.{AreLines, worth};
 ghost use Rattle.vp_pay.specs.Bets.{IsBet};
 ghost use Rattle.vp_sets.specs.Sets.{choose};
@@ -114,7 +114,7 @@ impl<'a> Metered<'a> {
 
     /// The name of the line.
     pub(crate) fn name(&self) -> &[u8]
-        ensures name { result.now ≡ slice_index_or (map (λ line. line.name) self.now.table.lines.items) self.now.place [] }
+        ensures name { result.now ≡ line_name self.now }
         ensures short { length result.now ≤ 24 }
     {
         self.table.lines[self.place as usize].name.text()
@@ -151,8 +151,8 @@ impl<'a> Metered<'a> {
 /// The totals of all holds in a table of sums, each times its scale.
 fn values_in(sums: &SumTable, scales: &[u64; 32], hand: &Hand) -> [u64; 32]
     requires cards { in_deck sums.now.size hand.now ≡ true }
-    requires small { IsHand hand.now → (mask : ℕ) → mask < 32 → spread sums.now.size sums.now.numbers hand.now mask * slice_index scales.now mask < 2 ^ 64 }
-    ensures values { (mask : ℕ) → mask < 32 → slice_index result mask ≡ spread sums.now.size sums.now.numbers hand.now mask * slice_index scales.now mask }
+    requires small { IsHand hand.now → (mask : ℕ) → mask < 32 → scaled_sum sums.now scales.now hand.now mask < 2 ^ 64 }
+    ensures values { (mask : ℕ) → mask < 32 → slice_index result mask ≡ scaled_sum sums.now scales.now hand.now mask }
     ensures hand { IsHand hand.now }
 {
     let mut reads = Reads::new(&*sums);

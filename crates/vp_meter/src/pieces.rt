@@ -4,7 +4,7 @@ ghost use Rattle.std.specs.Prelude.{◌≡◌, ◌+◌, ◌-◌, ◌*◌, ◌<�
 ghost use Rattle.vp_text.specs.Written.{line_of, written};
 ghost use Rattle.vp_io.specs.Puts.{Puts};
 ghost use Rattle.vp_meter.specs.Pieces.{piece_words};
-ghost use Rattle.vp_meter.specs.Tallies.{told};
+ghost use Rattle.vp_meter.specs.Tallies.{next_piece, told};
 
 use crate::piece::Piece;
 use vp_io::{Sink, WriteFault};
@@ -43,7 +43,7 @@ fn next_piece(lo: u32, i: u32, base: u64, slope: u128, counts: &[u64]) -> Piece
     requires place { 4 * (i + 1) + 3 < length counts.now }
     requires most { lo + i < 500000 }
     requires small { slope ≤ (i + 1) * 2 ^ 64 }
-    ensures piece { result ≡ record { from = lo + (i + 1); classes = slice_index counts.now (4 * (i + 1)); deals = slice_index counts.now (4 * (i + 1) + 1); base = base - slice_index counts.now (4 * (i + 1) + 2); slope = slope + slice_index counts.now (4 * (i + 1) + 3) } }
+    ensures piece { result ≡ next_piece lo counts.now i base slope }
     ensures small { result.slope ≤ (i + 2) * 2 ^ 64 }
 {
     let first = 4 * (i as usize + 1);

@@ -86,7 +86,8 @@ fn put_classes<K: Sink>(
     requires most { hi ≤ 500000 }
     requires long { length counts.old ≡ 4 * (hi - lo + 1) }
     requires zeros { (i : ℕ) → slice_index counts.old i ≡ 0 }
-    ensures puts { Puts (K.told sink.old) (K.told sink.new) result (written (flat_map (class_text m.now lo hi) (representatives m.now.table.deck))) }
+    ensures puts { Puts (K.told sink.old) (K.told sink.new) result
+        (written (flat_map (class_text m.now lo hi) (representatives m.now.table.deck))) }
     ensures first { IfOk result (λ first. first ≡ first_piece lo (graphs_of m.now lo hi)) }
     ensures tallied { OnOk result (AreTallied lo (flat_map turns_of (graphs_of m.now lo hi)) counts.new) }
     ensures long { length counts.new ≡ length counts.old }
@@ -114,7 +115,10 @@ fn put_classes<K: Sink>(
 fn added(first: Piece, weight: u8, segment: &Segment) -> Piece
     requires base { first.base + weight * segment.now.base < 2 ^ 64 }
     requires slope { first.slope + weight * segment.now.slope < 2 ^ 64 }
-    ensures { result ≡ record first { base = first.base + weight * segment.now.base; slope = first.slope + weight * segment.now.slope } }
+    ensures { result ≡ record first {
+      base = first.base + weight * segment.now.base;
+      slope = first.slope + weight * segment.now.slope;
+    } }
 {
     Piece {
         base: first.base + u64::from(weight) * segment.base,
@@ -125,7 +129,8 @@ fn added(first: Piece, weight: u8, segment: &Segment) -> Piece
 
 /// Puts the line of a class, and those of its segments.
 fn put_class<K: Sink>(class: &Class, segments: &[Segment], sink: &mut K) -> Result<(), WriteFault>
-    ensures { Puts (K.told sink.old) (K.told sink.new) result (line_of (class_words class.now.hand class.now.weight) ++ written (map segment_words segments.now)) }
+    ensures { Puts (K.told sink.old) (K.told sink.new) result
+        (line_of (class_words class.now.hand class.now.weight) ++ written (map segment_words segments.now)) }
 {
     put_class_line(class, sink)?;
     put_segments(segments, sink)

@@ -4,7 +4,7 @@
 ghost use Rattle.std.specs.Prelude.{◌≡◌, ℕ, ◌+◌, ◌-◌, ◌*◌, ◌<◌, ◌≤◌, ◌^◌, List, [], ◌∷◌, ◌++◌, length, slice_index, true};
 ghost use Rattle.std.specs.List.{All};
 ghost use Rattle.vp_meter.specs.Pieces.{climbing};
-ghost use Rattle.vp_meter.specs.Tallies.{Added, HasRoom, turns_in};
+ghost use Rattle.vp_meter.specs.Tallies.{change, Added, HasRoom, turns_in};
 
 use crate::Segment;
 
@@ -54,7 +54,7 @@ fn turn_between(weight: u8, before: &Segment, next: &Segment) -> Turn
     requires slope { before.now.slope ≤ next.now.slope }
     requires lost { weight * (before.now.base - next.now.base) < 2 ^ 64 }
     requires gained { weight * (next.now.slope - before.now.slope) < 2 ^ 64 }
-    ensures { result ≡ record { from = next.now.from; weight = weight; lost = weight * (before.now.base - next.now.base); gained = weight * (next.now.slope - before.now.slope) } }
+    ensures { result ≡ change weight before.now next.now }
 {
     Turn {
         from: next.from,

@@ -90,7 +90,8 @@ fn base_payment(table: &PayTable, coin: u8, place: u8, found: Option<u8>) -> u64
     requires some { 1 ≤ coin }
     requires most { coin ≤ 5 }
     requires inside { IfSome found (λ i. i < length table.now.lines.items) }
-    ensures { (hand : List ℕ) → line table.now hand ≡ found → result ≡ (if is_line place found then 0 else pay table.now coin hand) }
+    ensures { (hand : List ℕ) → line table.now hand ≡ found
+        → result ≡ (if is_line place found then 0 else pay table.now coin hand) }
 {
     if is_line(place, found) {
         0
