@@ -4,6 +4,7 @@ pub mod CheckInputs
 pub mod EveryDeals
 pub mod ReplayWords
 pub mod Replays
+pub mod Meters
 pub mod GivenWords
 pub mod SomeText
 pub mod DealtHands

@@ -7,6 +7,7 @@ use Rattle.vp_text.specs.Sections.{Text}
 use Rattle.vp_text.specs.Written.{line_of, spaced, written}
 use Rattle.vp_check.specs.Spelling.{certificate_text}
 use Rattle.vp_check.specs.Truth.{due_certificate}
+use Rattle.vp_meter.specs.Spelling.{head_words, meter_text}
 use Rattle.vp_pay.specs.BuiltIn.{built_in}
 use Rattle.vp_pay.specs.Spelling.{table_text}
 use Rattle.vp_replay.specs.Summaries.{cost_lines, summary_lines, summary_of}
@@ -19,7 +20,7 @@ use Rattle.vp_run.specs.Commands.{command_of}
 use Rattle.vp_run.specs.declared.command.Command.{Command}
 use Rattle.vp_run.specs.declared.command.Command.TheVariants.{Over, Tables}
 use Rattle.vp_run.specs.declared.job.Job.{Job}
-use Rattle.vp_run.specs.declared.job.Job.TheVariants.{Certify, Checked, Deal, Replay}
+use Rattle.vp_run.specs.declared.job.Job.TheVariants.{Certify, Checked, Deal, Replay, Meter}
 
 front_some : (front back : List ℕ) → 0 < length front → 0 < length (front ++ back)
 front_some front back some = omega (arith, length-append front back)
@@ -29,11 +30,12 @@ behind_some front back some = rw (flat_map-append line_of front back) (omega (ar
 
 -- a line for each job
 job_some : (job : Job) → 0 < length (job_text job)
-unfolding certificate_text table_text checked_lines
+unfolding certificate_text table_text checked_lines meter_text head_words
 job_some (Deal d) = front_some (line_of (codes "deal" ∷ map card_text d.hand)) _ (omega (arith, length-append (spaced (codes "deal" ∷ map card_text d.hand)) (10 ∷ [])))
 job_some (Certify s) = omega arith
 job_some (Checked c) = omega arith
 job_some (Replay l) = behind_some (cost_lines l.table true 1 l.log.events) (summary_lines l.table.deck (summary_of l.table l.log)) (omega arith)
+job_some (Meter r) = omega arith
 
 read_some : (read : Result Job Stop) → 0 < length (answer_read job_text read).text
 unfolding finding_words

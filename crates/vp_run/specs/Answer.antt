@@ -27,9 +27,11 @@ use Rattle.vp_run.specs.Replay.{replay_input, rule_of as law_of}
 use Rattle.vp_run.specs.declared.command.Command.{Command}
 use Rattle.vp_run.specs.declared.command.Command.TheVariants.{Over, Tables}
 use Rattle.vp_run.specs.declared.command.Task.{Task}
-use Rattle.vp_run.specs.declared.command.Task.TheVariants.{Certify, Check, Deal, Replay}
+use Rattle.vp_run.specs.declared.command.Task.TheVariants.{Certify, Check, Deal, Replay, Meter}
 use Rattle.vp_run.specs.declared.job.Job.{Job}
-use Rattle.vp_run.specs.declared.job.Job.TheVariants.{Certify as CertifyJob, Checked as CheckedJob, Deal as DealJob, Replay as ReplayJob}
+use Rattle.vp_run.specs.declared.job.Job.TheVariants.{Certify as CertifyJob, Checked as CheckedJob, Deal as DealJob, Replay as ReplayJob, Meter as MeterJob}
+use Rattle.vp_run.specs.Meter.{meter_input, metering_of}
+use Rattle.vp_meter.specs.Spelling.{meter_text}
 
 -- ---- what is read, and its text
 
@@ -43,6 +45,9 @@ deal_job coin read = DealJob (record { table = read.0; coin = coin; hand = read.
 
 abbrev pub certify_job : ℕ → PayTable × Unit {0} → Job
 certify_job coin read = CertifyJob (record { table = read.0; coin = coin })
+
+abbrev pub meter_job : ℕ → List ℕ → ℕ → ℕ → PayTable × Unit {0} → Job
+meter_job coin name lo hi read = MeterJob (record { metering = metering_of coin name read.0; lo = lo; hi = hi })
 
 -- what the check of a certificate gives
 abbrev pub check_read : Result Checked Finding → Result Job Stop
@@ -69,6 +74,7 @@ job_of (Deal coin) bytes = read_as (deal_job coin) (deal_input coin bytes)
 job_of (Certify coin) bytes = read_as (certify_job coin) (certify_input coin bytes)
 job_of (Check from count) bytes = check_read (check_result bytes from count)
 job_of Replay bytes = log_read (replay_input bytes)
+job_of (Meter coin name lo hi) bytes = read_as (meter_job coin name lo hi) (meter_input coin name bytes)
 
 -- the text of a job
 abbrev pub job_text : Job → List ℕ
@@ -80,6 +86,8 @@ job_text (CertifyJob s) = written (certificate_text (due_certificate s.table s.c
 job_text (CheckedJob checked) = written (checked_lines checked)
 -- of `replay`: the costs of its games, and the numbers of the log
 job_text (ReplayJob l) = written (replay_lines l.table l.log)
+-- of `meter`: the classes with their segments, and the pieces
+job_text (MeterJob r) = written (meter_text r.metering r.lo r.hi)
 
 -- ---- words that need no input
 

@@ -3,6 +3,7 @@ pub mod Deal
 pub mod Certify
 pub mod Check
 pub mod Replay
+pub mod Meter
 pub mod Answer
 pub mod Memory
 pub mod Arguments

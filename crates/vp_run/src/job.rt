@@ -3,11 +3,12 @@
 ghost use Rattle.std.specs.Prelude.{◌≡◌, ◌≤◌, length};
 ghost use Rattle.vp_loggram.specs.Logs.{IsLog};
 ghost use Rattle.vp_pay.specs.Table.{IsTable};
-ghost use Rattle.vp_run.specs.Answer.{certify_job, check_read, deal_job, job_of, log_read, read_as, replay_read};
+ghost use Rattle.vp_run.specs.Answer.{certify_job, check_read, deal_job, job_of, log_read, read_as, replay_read, meter_job};
 ghost use Rattle.vp_run.specs.Certify.{certify_input};
 ghost use Rattle.vp_run.specs.Commands.{InRange};
 ghost use Rattle.vp_run.specs.Deal.{deal_input};
 ghost use Rattle.vp_run.specs.Replay.{replay_input};
+ghost use Rattle.vp_run.specs.Meter.{meter_input};
 
 use crate::certify::{CertifyJob, read_certify_input};
 use crate::check::{put_checked, rule_of};
@@ -18,7 +19,8 @@ use vp_answer::{Stop, Work};
 use vp_check::{Checked, Finding, check};
 use vp_io::{Sink, WriteFault};
 use vp_loggram::Log;
-use vp_pay::PayTable;
+use vp_pay::{PayTable, Name};
+use crate::meter::{MeterJob, read_meter_input};
 use vp_region::Region;
 
 /// What is left to do once an input is read.
@@ -28,6 +30,7 @@ pub enum Job<'a> {
     Certify(CertifyJob),
     Checked(Checked),
     Replay(ReplayJob<'a>),
+    Meter(MeterJob),
 }
 
 impl<'a> Work for Job<'a> {
@@ -44,6 +47,7 @@ impl<'a> Work for Job<'a> {
             Job::Certify(job) => job.words(),
             Job::Checked(_) => 0,
             Job::Replay(job) => job.words(),
+            Job::Meter(job) => job.words(),
         }
     }
 
@@ -53,6 +57,7 @@ impl<'a> Work for Job<'a> {
             Job::Certify(job) => job.put(region, sink),
             Job::Checked(checked) => put_checked(*checked, sink),
             Job::Replay(job) => job.put(region, sink),
+            Job::Meter(job) => job.put(region, sink),
         }
     }
 }
@@ -68,6 +73,7 @@ pub(crate) fn job_of(task: Task, bytes: &[u8]) -> Result<Job<'_>, Stop>
         Task::Certify(coin) => certify_job(coin, bytes),
         Task::Check { from, count } => check_job(check(bytes, from, count)),
         Task::Replay => replay_job(bytes),
+        Task::Meter { coin, line, lo, hi } => meter_job(coin, &line, lo, hi, bytes),
     }
 }
 
@@ -89,6 +95,25 @@ fn certify_job(coin: u8, bytes: &[u8]) -> Result<Job<'_>, Stop>
 {
     match read_certify_input(bytes, coin) {
         Ok(table) => Ok(Job::Certify(CertifyJob::new(table, coin))),
+        Err(refused) => Err(Stop::Refused { line: refused.line }),
+    }
+}
+
+fn meter_job<'a>(
+    coin: u8,
+    name: &Name,
+    lo: u32,
+    hi: u32,
+    bytes: &'a [u8],
+) -> Result<Job<'a>, Stop>
+    requires some { 1 ≤ coin }
+    requires order { lo ≤ hi }
+    requires most { hi ≤ 500000 }
+    requires limit { length bytes.now ≤ 67108864 }
+    ensures { result ≡ read_as (meter_job coin name.now lo hi) (meter_input coin name.now bytes.now) }
+{
+    match read_meter_input(bytes, coin, name) {
+        Ok((table, line)) => Ok(Job::Meter(MeterJob::new(table, coin, line, lo, hi))),
         Err(refused) => Err(Stop::Refused { line: refused.line }),
     }
 }

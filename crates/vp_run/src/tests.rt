@@ -4,6 +4,7 @@ mod certify;
 mod check;
 mod deal;
 mod faults;
+mod meter;
 mod replay;
 mod tables;
 mod words;
