@@ -15,6 +15,8 @@ use Rattle.vp_answer.specs.Answers.{Answer, answer_read, done}
 use Rattle.vp_answer.specs.declared.status.Status.TheVariants.{Usage}
 use Rattle.vp_answer.specs.declared.stop.Stop.{Stop}
 use Rattle.vp_answer.specs.declared.stop.Stop.TheVariants.{Finding as Found, Refused as Refusal}
+use Rattle.vp_rule.specs.Lists.{RuleList}
+use Rattle.vp_run.specs.Audit.{audit_input, audit_lines}
 use Rattle.vp_run.specs.Certify.{certify_input}
 use Rattle.vp_run.specs.Check.{checked_lines, rule_of}
 use Rattle.vp_run.specs.Commands.{command_of, reads}
@@ -22,9 +24,9 @@ use Rattle.vp_run.specs.Deal.{deal_input, deal_lines}
 use Rattle.vp_run.specs.declared.command.Command.{Command}
 use Rattle.vp_run.specs.declared.command.Command.TheVariants.{Over, Tables}
 use Rattle.vp_run.specs.declared.command.Task.{Task}
-use Rattle.vp_run.specs.declared.command.Task.TheVariants.{Certify, Check, Deal}
+use Rattle.vp_run.specs.declared.command.Task.TheVariants.{Audit, Certify, Check, Deal}
 use Rattle.vp_run.specs.declared.job.Job.{Job}
-use Rattle.vp_run.specs.declared.job.Job.TheVariants.{Certify as CertifyJob, Checked as CheckedJob, Deal as DealJob}
+use Rattle.vp_run.specs.declared.job.Job.TheVariants.{Audit as AuditJob, Certify as CertifyJob, Checked as CheckedJob, Deal as DealJob}
 
 -- ---- what is read, and its text
 
@@ -39,6 +41,9 @@ deal_job coin read = DealJob (record { table = read.0; coin = coin; hand = read.
 abbrev pub certify_job : ℕ → PayTable × Unit {0} → Job
 certify_job coin read = CertifyJob (record { table = read.0; coin = coin })
 
+abbrev pub audit_job : ℕ → PayTable × RuleList → Job
+audit_job coin read = AuditJob (record { table = read.0; coin = coin; list = read.1 })
+
 -- what the check of a certificate gives
 abbrev pub check_read : Result Checked Finding → Result Job Stop
 check_read (Err (RefusedAt line)) = Err (Refusal line)
@@ -49,6 +54,7 @@ check_read (Ok checked) = Ok (CheckedJob checked)
 abbrev pub job_of : Task → List ℕ → Result Job Stop
 job_of (Deal coin) bytes = read_as (deal_job coin) (deal_input coin bytes)
 job_of (Certify coin) bytes = read_as (certify_job coin) (certify_input coin bytes)
+job_of (Audit coin) bytes = read_as (audit_job coin) (audit_input coin bytes)
 job_of (Check from count) bytes = check_read (check_result bytes from count)
 
 -- the text of a job
@@ -57,6 +63,8 @@ abbrev pub job_text : Job → List ℕ
 job_text (DealJob d) = written (deal_lines d)
 -- of `certify`: the spelling of the true certificate whose masks are the least best ones
 job_text (CertifyJob s) = written (certificate_text (due_certificate s.table s.coin))
+-- of `audit`: what the list loses
+job_text (AuditJob l) = written (audit_lines l)
 -- of `check`: what the certificate says of itself
 job_text (CheckedJob checked) = written (checked_lines checked)
 

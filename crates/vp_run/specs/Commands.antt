@@ -7,7 +7,7 @@ use Rattle.vp_text.specs.Pieces.{◌>>=◌}
 use Rattle.vp_run.specs.declared.command.Command.{Command}
 use Rattle.vp_run.specs.declared.command.Command.TheVariants.{Over, Tables}
 use Rattle.vp_run.specs.declared.command.Task.{Task}
-use Rattle.vp_run.specs.declared.command.Task.TheVariants.{Certify, Check, Deal}
+use Rattle.vp_run.specs.declared.command.Task.TheVariants.{Audit, Certify, Check, Deal}
 
 -- ---- how a command is spelled
 
@@ -15,6 +15,7 @@ use Rattle.vp_run.specs.declared.command.Task.TheVariants.{Certify, Check, Deal}
 abbrev pub task_words : Task → List Word
 task_words (Deal coin) = codes "deal" ∷ decimal coin ∷ []
 task_words (Certify coin) = codes "certify" ∷ decimal coin ∷ []
+task_words (Audit coin) = codes "audit" ∷ decimal coin ∷ []
 task_words (Check from count) = codes "check" ∷ decimal from ∷ decimal count ∷ []
 
 -- the words of a command
@@ -32,6 +33,7 @@ pub record IsRange (from count : ℕ) : Type 0 where
 abbrev pub InRange : Task → Type 0
 InRange (Deal coin) = (1 ≤ coin) × (coin ≤ 5)
 InRange (Certify coin) = (1 ≤ coin) × (coin ≤ 5)
+InRange (Audit coin) = (1 ≤ coin) × (coin ≤ 5)
 InRange (Check from count) = IsRange from count
 
 -- the same of a command
@@ -66,8 +68,9 @@ unfoldable pub task_of : Word → List Word → Option Task
 task_of word numbers =
     if bytes_eq word (codes "deal") then bet Deal numbers
     else (if bytes_eq word (codes "certify") then bet Certify numbers
+    else (if bytes_eq word (codes "audit") then bet Audit numbers
     else (if bytes_eq word (codes "check") then check numbers
-    else None))
+    else None)))
 
 -- the command of a word alone
 abbrev pub alone : Word → Option Command

@@ -3,6 +3,7 @@ pub mod Deal
 pub mod Certify
 pub mod Check
 pub mod Answer
+pub mod Audit
 pub mod Memory
 pub mod Arguments
 pub mod EveryDeal

@@ -7,12 +7,13 @@ use Rattle.vp_run.specs.Commands.{command_of}
 use Rattle.vp_run.specs.declared.command.Command.{Command}
 use Rattle.vp_run.specs.declared.command.Command.TheVariants.{Over, Tables}
 use Rattle.vp_run.specs.declared.job.Job.{Job}
-use Rattle.vp_run.specs.declared.job.Job.TheVariants.{Certify, Checked, Deal}
+use Rattle.vp_run.specs.declared.job.Job.TheVariants.{Audit, Certify, Checked, Deal}
 
--- `deal` and `certify` need a table of sums for the deck of their pay table; `check` walks the draws in place
+-- `deal`, `certify` and `audit` need a table of sums for the deck of their pay table; `check` walks the draws in place
 abbrev pub job_words : Job → ℕ
 job_words (Deal d) = first_word d.table.deck 6
 job_words (Certify s) = first_word s.table.deck 6
+job_words (Audit l) = first_word l.table.deck 6
 job_words (Checked c) = 0
 
 -- what a command needs; `tables` reads no input
