@@ -1,3 +1,4 @@
+pub mod AuditLines
 pub mod NoCommand
 pub mod CommandWords
 pub mod CheckInputs

@@ -20,7 +20,7 @@ use Rattle.vp_run.specs.Commands.{command_of}
 use Rattle.vp_run.specs.declared.command.Command.{Command}
 use Rattle.vp_run.specs.declared.command.Command.TheVariants.{Over, Tables}
 use Rattle.vp_run.specs.declared.job.Job.{Job}
-use Rattle.vp_run.specs.declared.job.Job.TheVariants.{Certify, Checked, Deal, Replay, Meter}
+use Rattle.vp_run.specs.declared.job.Job.TheVariants.{Certify, Checked, Deal, Replay, Meter, Audit}
 
 front_some : (front back : List ℕ) → 0 < length front → 0 < length (front ++ back)
 front_some front back some = omega (arith, length-append front back)
@@ -33,6 +33,7 @@ job_some : (job : Job) → 0 < length (job_text job)
 unfolding certificate_text table_text checked_lines meter_text head_words
 job_some (Deal d) = front_some (line_of (codes "deal" ∷ map card_text d.hand)) _ (omega (arith, length-append (spaced (codes "deal" ∷ map card_text d.hand)) (10 ∷ [])))
 job_some (Certify s) = omega arith
+job_some (Audit l) = omega arith
 job_some (Checked c) = omega arith
 job_some (Replay l) = behind_some (cost_lines l.table true 1 l.log.events) (summary_lines l.table.deck (summary_of l.table l.log)) (omega arith)
 job_some (Meter r) = omega arith

@@ -19,6 +19,8 @@ use Rattle.vp_answer.specs.Answers.{Answer, answer_read, done}
 use Rattle.vp_answer.specs.declared.status.Status.TheVariants.{Usage}
 use Rattle.vp_answer.specs.declared.stop.Stop.{Stop}
 use Rattle.vp_answer.specs.declared.stop.Stop.TheVariants.{Finding as Found, Refused as Refusal}
+use Rattle.vp_rule.specs.Lists.{RuleList}
+use Rattle.vp_run.specs.Audit.{audit_input, audit_lines}
 use Rattle.vp_run.specs.Certify.{certify_input}
 use Rattle.vp_run.specs.Check.{checked_lines, rule_of}
 use Rattle.vp_run.specs.Commands.{command_of, reads}
@@ -27,9 +29,9 @@ use Rattle.vp_run.specs.Replay.{replay_input, rule_of as law_of}
 use Rattle.vp_run.specs.declared.command.Command.{Command}
 use Rattle.vp_run.specs.declared.command.Command.TheVariants.{Over, Tables}
 use Rattle.vp_run.specs.declared.command.Task.{Task}
-use Rattle.vp_run.specs.declared.command.Task.TheVariants.{Certify, Check, Deal, Replay, Meter}
+use Rattle.vp_run.specs.declared.command.Task.TheVariants.{Certify, Check, Deal, Replay, Meter, Audit}
 use Rattle.vp_run.specs.declared.job.Job.{Job}
-use Rattle.vp_run.specs.declared.job.Job.TheVariants.{Certify as CertifyJob, Checked as CheckedJob, Deal as DealJob, Replay as ReplayJob, Meter as MeterJob}
+use Rattle.vp_run.specs.declared.job.Job.TheVariants.{Certify as CertifyJob, Checked as CheckedJob, Deal as DealJob, Replay as ReplayJob, Meter as MeterJob, Audit as AuditJob}
 use Rattle.vp_run.specs.Meter.{meter_input, metering_of}
 use Rattle.vp_meter.specs.Spelling.{meter_text}
 
@@ -48,6 +50,8 @@ certify_job coin read = CertifyJob (record { table = read.0; coin = coin })
 
 abbrev pub meter_job : ℕ → List ℕ → ℕ → ℕ → PayTable × Unit {0} → Job
 meter_job coin name lo hi read = MeterJob (record { metering = metering_of coin name read.0; lo = lo; hi = hi })
+abbrev pub audit_job : ℕ → PayTable × RuleList → Job
+audit_job coin read = AuditJob (record { table = read.0; coin = coin; list = read.1 })
 
 -- what the check of a certificate gives
 abbrev pub check_read : Result Checked Finding → Result Job Stop
@@ -72,6 +76,7 @@ log_read (Err line) = Err (Refusal line)
 abbrev pub job_of : Task → List ℕ → Result Job Stop
 job_of (Deal coin) bytes = read_as (deal_job coin) (deal_input coin bytes)
 job_of (Certify coin) bytes = read_as (certify_job coin) (certify_input coin bytes)
+job_of (Audit coin) bytes = read_as (audit_job coin) (audit_input coin bytes)
 job_of (Check from count) bytes = check_read (check_result bytes from count)
 job_of Replay bytes = log_read (replay_input bytes)
 job_of (Meter coin name lo hi) bytes = read_as (meter_job coin name lo hi) (meter_input coin name bytes)
@@ -82,6 +87,8 @@ abbrev pub job_text : Job → List ℕ
 job_text (DealJob d) = written (deal_lines d)
 -- of `certify`: the spelling of the true certificate whose masks are the least best ones
 job_text (CertifyJob s) = written (certificate_text (due_certificate s.table s.coin))
+-- of `audit`: what the list loses
+job_text (AuditJob l) = written (audit_lines l)
 -- of `check`: what the certificate says of itself
 job_text (CheckedJob checked) = written (checked_lines checked)
 -- of `replay`: the costs of its games, and the numbers of the log

@@ -5,6 +5,7 @@ pub mod Check
 pub mod Replay
 pub mod Meter
 pub mod Answer
+pub mod Audit
 pub mod Memory
 pub mod Arguments
 pub mod EveryDeal

@@ -15,6 +15,8 @@ pub enum Task {
     Deal(u8),
     /// `certify COIN`: the certificate of a pay table, for a bet of 1 to 5 coins.
     Certify(u8),
+    /// `audit COIN`: what a strategy list loses, for a bet of 1 to 5 coins.
+    Audit(u8),
     /// `check FROM COUNT`: what is wrong with a certificate. The values of COUNT class lines from the place FROM on,
     /// counted from 1, are reckoned again by walking all draws.
     Check {
@@ -76,6 +78,7 @@ fn task_of(word: &str, numbers: &[&str]) -> Option<Task>
     match word {
         "deal" => bet(numbers).map(Task::Deal),
         "certify" => bet(numbers).map(Task::Certify),
+        "audit" => bet(numbers).map(Task::Audit),
         "check" => lines(numbers),
         "meter" => meter(numbers),
         _ => None,

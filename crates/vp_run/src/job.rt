@@ -3,13 +3,15 @@
 ghost use Rattle.std.specs.Prelude.{◌≡◌, ◌≤◌, length};
 ghost use Rattle.vp_loggram.specs.Logs.{IsLog};
 ghost use Rattle.vp_pay.specs.Table.{IsTable};
-ghost use Rattle.vp_run.specs.Answer.{certify_job, check_read, deal_job, job_of, log_read, read_as, replay_read, meter_job};
+ghost use Rattle.vp_run.specs.Answer.{certify_job, check_read, deal_job, job_of, log_read, read_as, replay_read, meter_job, audit_job};
+ghost use Rattle.vp_run.specs.Audit.{audit_input};
 ghost use Rattle.vp_run.specs.Certify.{certify_input};
 ghost use Rattle.vp_run.specs.Commands.{InRange};
 ghost use Rattle.vp_run.specs.Deal.{deal_input};
 ghost use Rattle.vp_run.specs.Replay.{replay_input};
 ghost use Rattle.vp_run.specs.Meter.{meter_input};
 
+use crate::audit::{AuditJob, read_audit_input};
 use crate::certify::{CertifyJob, read_certify_input};
 use crate::check::{put_checked, rule_of};
 use crate::command::Task;
@@ -28,6 +30,7 @@ use vp_region::Region;
 pub enum Job<'a> {
     Deal(DealJob),
     Certify(CertifyJob),
+    Audit(AuditJob<'a>),
     Checked(Checked),
     Replay(ReplayJob<'a>),
     Meter(MeterJob),
@@ -45,6 +48,7 @@ impl<'a> Work for Job<'a> {
         match self {
             Job::Deal(job) => job.words(),
             Job::Certify(job) => job.words(),
+            Job::Audit(job) => job.words(),
             Job::Checked(_) => 0,
             Job::Replay(job) => job.words(),
             Job::Meter(job) => job.words(),
@@ -55,6 +59,7 @@ impl<'a> Work for Job<'a> {
         match self {
             Job::Deal(job) => job.put(region, sink),
             Job::Certify(job) => job.put(region, sink),
+            Job::Audit(job) => job.put(region, sink),
             Job::Checked(checked) => put_checked(*checked, sink),
             Job::Replay(job) => job.put(region, sink),
             Job::Meter(job) => job.put(region, sink),
@@ -71,6 +76,7 @@ pub(crate) fn job_of(task: Task, bytes: &[u8]) -> Result<Job<'_>, Stop>
     match task {
         Task::Deal(coin) => deal_job(coin, bytes),
         Task::Certify(coin) => certify_job(coin, bytes),
+        Task::Audit(coin) => audit_job(coin, bytes),
         Task::Check { from, count } => check_job(check(bytes, from, count)),
         Task::Replay => replay_job(bytes),
         Task::Meter { coin, line, lo, hi } => meter_job(coin, &line, lo, hi, bytes),
@@ -114,6 +120,17 @@ fn meter_job<'a>(
 {
     match read_meter_input(bytes, coin, name) {
         Ok((table, line)) => Ok(Job::Meter(MeterJob::new(table, coin, line, lo, hi))),
+        Err(refused) => Err(Stop::Refused { line: refused.line }),
+    }
+}
+
+fn audit_job(coin: u8, bytes: &[u8]) -> Result<Job<'_>, Stop>
+    requires some { 1 ≤ coin }
+    requires limit { length bytes.now ≤ 67108864 }
+    ensures { result ≡ read_as (audit_job coin) (audit_input coin bytes.now) }
+{
+    match read_audit_input(bytes, coin) {
+        Ok((table, list)) => Ok(Job::Audit(AuditJob::new(table, coin, list))),
         Err(refused) => Err(Stop::Refused { line: refused.line }),
     }
 }

@@ -1,5 +1,6 @@
 // Laws of the answers.
 ghost use Rattle.vp_run.specs.Answer.{UsageIsForNoCommand};
+ghost use Rattle.vp_run.specs.Audit.{AuditInputsAreRead};
 ghost use Rattle.vp_run.specs.Certify.{CertifyInputsAreRead};
 ghost use Rattle.vp_run.specs.Check.{CertificatesAreJudged, CheckInputsAreEither, CheckInputsAreRefused};
 ghost use Rattle.vp_run.specs.Commands.{CommandsAreSpelled};
@@ -29,6 +30,12 @@ pub fn deal_inputs_are_read()
 /// nothing else. Every other input is refused, exactly at its refused line.
 pub fn certify_inputs_are_read()
     ensures { CertifyInputsAreRead }
+{}
+
+/// What `audit` takes for its input is what the lines of the input spell: a valid pay table that has the bet, then a
+/// strategy list for it, and nothing else. Every other input is refused, exactly at its refused line.
+pub fn audit_inputs_are_read()
+    ensures { AuditInputsAreRead }
 {}
 
 /// What `check` takes for its input is what the lines of the input spell: a certificate in the grammar, and nothing else.

@@ -2,6 +2,7 @@
 #![tactic(auto)]
 
 mod arguments;
+mod audit;
 mod certify;
 mod check;
 mod command;
@@ -16,7 +17,7 @@ mod top;
 
 pub use arguments::run;
 pub use laws::{
-    certificates_are_checked, certificates_tell_every_deal, certify_inputs_are_read,
+    audit_inputs_are_read, certificates_are_checked, certificates_tell_every_deal, certify_inputs_are_read,
     check_inputs_are_read, commands_are_spelled, deal_inputs_are_read, deals_print_best_holds,
     meter_inputs_are_read, meters_are_told, replay_inputs_are_read, replays_tell_costs,
     usage_is_for_no_command,

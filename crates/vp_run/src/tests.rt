@@ -1,5 +1,6 @@
 //! The program over sources and sinks in memory.
 
+mod audit;
 mod certify;
 mod check;
 mod deal;

@@ -1,0 +1,66 @@
+-- `audit`: what its input says, what it prints, and what that tells.
+use Rattle.std.specs.Prelude.{◌≡◌, ℕ, ◌+◌, List, [], ◌∷◌, ◌++◌, Result, codes, sum_by}
+use Rattle.std.specs.Fmt.{decimal}
+use Rattle.vp_text.specs.Lines.{Word}
+use Rattle.vp_text.specs.Sections.{Text}
+use Rattle.vp_pay.specs.Bets.{IsBet}
+use Rattle.vp_pay.specs.declared.table.PayTable.{PayTable}
+use Rattle.vp_draws.specs.Draws.{return_denominator}
+use Rattle.vp_rule.specs.Inputs.{RefusesList, SpellsList, list_input}
+use Rattle.vp_rule.specs.Lists.{RuleList}
+use Rattle.vp_rule.specs.Valid.{IsList}
+use Rattle.vp_audit.specs.Audits.{audited}
+use Rattle.vp_audit.specs.declared.audited.Audited.{Audited}
+use Rattle.vp_audit.specs.declared.audited.Tally.{Tally}
+use Rattle.vp_answer.specs.Inputs.{AreRead}
+use Rattle.vp_run.specs.Deal.{fraction, has_bet}
+
+-- what an input of `audit` says: a pay table that has the bet, then a list for it, and nothing else; or the line where it is refused
+abbrev pub audit_input : ℕ → List ℕ → Result (PayTable × RuleList) ℕ
+audit_input coin bytes = list_input (has_bet coin) bytes
+
+-- a bet on a pay table, and a list
+pub record Listed : Type 0 where
+  pub table : PayTable
+  pub coin : ℕ
+  pub list : RuleList
+
+-- the list is one for the table
+pub record IsListed (l : Listed) : Type 0 where
+  pub bet : IsBet l.table l.coin
+  pub list : IsList l.table l.list
+
+-- the deals of a tally and their loss, behind this word
+abbrev pub tally_words : Word → Tally → List Word
+tally_words key tally = key ∷ decimal tally.deals ∷ decimal tally.loss ∷ []
+
+-- the tally of the rule with this number
+abbrev pub rule_words : ℕ → Tally → List Word
+rule_words number tally = codes "rule" ∷ decimal number ∷ decimal tally.deals ∷ decimal tally.loss ∷ []
+
+-- the tallies of rules, the first of which has this number
+abbrev pub rule_lines : ℕ → List Tally → Text
+rule_lines number [] = []
+rule_lines number (tally ∷ tallies) = rule_words number tally ∷ rule_lines (number + 1) tallies
+
+-- the sums over this denominator, how many deals are ambiguous, and the tally of the exceptions
+abbrev pub sum_lines : Audited → ℕ → Text
+sum_lines a under =
+    (codes "optimum" ∷ fraction a.optimum under) ∷
+    (codes "least" ∷ fraction a.least under) ∷
+    (codes "greatest" ∷ fraction a.greatest under) ∷
+    (codes "loss" ∷ fraction a.loss under) ∷
+    (codes "ambiguous" ∷ decimal a.ambiguous ∷ []) ∷
+    tally_words (codes "except") a.except ∷ []
+
+-- what a list loses, over this denominator
+abbrev pub audited_lines : Audited → ℕ → Text
+audited_lines a under = sum_lines a under ++ (rule_lines 1 a.rules.items ++ tally_words (codes "none") a.none ∷ [])
+
+-- what `audit` prints
+abbrev pub audit_lines : Listed → Text
+audit_lines l = audited_lines (audited l.table l.coin l.list) (return_denominator l.table.deck l.coin)
+
+-- a pay table that has the bet, and a list for it
+abbrev pub AuditInputsAreRead : Type 0
+AuditInputsAreRead = (coin : ℕ) → AreRead (audit_input coin) (SpellsList (has_bet coin)) (RefusesList (has_bet coin))
