@@ -8,11 +8,11 @@ use Rattle.vp_text.specs.Numbers.{number_within}
 use Rattle.vp_text.specs.Pieces.{◌>>=◌}
 use Rattle.vp_text.proofs.Numbers.{number_within_exact}
 use Rattle.vp_text.proofs.Pieces.{bound, chosen}
-use Rattle.vp_run.specs.Commands.{AreInRange, CommandsAreSpelled, InRange, alone, bet, check, coin_of, command_of, command_words, lines_of, task_of, task_words}
+use Rattle.vp_run.specs.Commands.{AreInRange, CommandsAreSpelled, InRange, alone, bet, check, coin_of, command_of, command_words, hands_of, lines_of, multi, task_of, task_words}
 use Rattle.vp_run.specs.declared.command.Command.{Command}
 use Rattle.vp_run.specs.declared.command.Command.TheVariants.{Over, Tables}
 use Rattle.vp_run.specs.declared.command.Task.{Task}
-use Rattle.vp_run.specs.declared.command.Task.TheVariants.{Certify, Check, Deal}
+use Rattle.vp_run.specs.declared.command.Task.TheVariants.{Certify, Check, Deal, Multi}
 
 -- the words spell the task, and its numbers are in range
 abbrev Spells : List Word → Task → Type 0
@@ -49,6 +49,19 @@ a_check (first ∷ second ∷ []) read e =
     subst (λ (t : Task). Spells (codes "check" ∷ first ∷ second ∷ []) t) same
     (ap (λ (w : Word). codes "check" ∷ w ∷ second ∷ []) (sym f.1) ∙ ap (λ (w : Word). codes "check" ∷ decimal from.value ∷ w ∷ []) (sym n.1), record { some = f.0.0; most_from = f.0.1; most_count = n.0.1 })
 
+a_multi : (numbers : List Word) (read : Task) → multi numbers ≡ Some read → Spells (codes "multi" ∷ numbers) read
+a_multi [] read e = absurd cc
+a_multi (first ∷ []) read e = absurd cc
+a_multi (first ∷ second ∷ third ∷ more) read e = absurd cc
+a_multi (first ∷ second ∷ []) read e =
+    let coin = bound (number_within 1 5 first) _ read e in
+    let hands = bound (number_within 1 100 second) _ read coin.then in
+    let f = digits 1 5 first coin.value (omega arith) coin.first in
+    let n = digits 1 100 second hands.value (omega arith) hands.first in
+    let same : Multi coin.value hands.value ≡ read = (let e : Some (Multi coin.value hands.value) ≡ Some read = hands.then in cc) in
+    subst (λ (t : Task). Spells (codes "multi" ∷ first ∷ second ∷ []) t) same
+    (ap (λ (w : Word). codes "multi" ∷ w ∷ second ∷ []) (sym f.1) ∙ ap (λ (w : Word). codes "multi" ∷ decimal coin.value ∷ w ∷ []) (sym n.1), record { some_coin = f.0.0; most_coin = f.0.1; some = n.0.0; most = n.0.1 })
+
 -- a word that is this key, and else the choice behind it
 keyed : (key word : Word) (numbers : List Word) (here other : Option Task) (read : Task) → (if bytes_eq word key then here else other) ≡ Some read
     → (here ≡ Some read → Spells (key ∷ numbers) read) → (other ≡ Some read → Spells (word ∷ numbers) read) → Spells (word ∷ numbers) read
@@ -63,7 +76,8 @@ unfolding task_of
 task_spelled word numbers read e =
     keyed (codes "deal") word numbers (bet Deal numbers) _ read e (a_bet (codes "deal") Deal (λ coin. refl) (λ coin is. is) numbers read) (λ e.
     keyed (codes "certify") word numbers (bet Certify numbers) _ read e (a_bet (codes "certify") Certify (λ coin. refl) (λ coin is. is) numbers read) (λ e.
-    keyed (codes "check") word numbers (check numbers) None read e (a_check numbers read) (λ none. absurd cc)))
+    keyed (codes "check") word numbers (check numbers) _ read e (a_check numbers read) (λ e.
+    keyed (codes "multi") word numbers (multi numbers) None read e (a_multi numbers read) (λ none. absurd cc))))
 
 task_read : (task : Task) → InRange task → command_of (task_words task) ≡ Some (Over task)
 unfolding command_of task_of coin_of
@@ -74,6 +88,11 @@ task_read (Check from count) is =
     let n = (number_within_exact 0 200000 (omega arith)).again count (omega arith, is.most_count) in
     ap (λ o. option_map Over (o >>= λ a. number_within 0 200000 (decimal count) >>= λ b. Some (Check a b))) f
     ∙ ap (λ o. option_map Over (o >>= λ b. Some (Check from b))) n
+task_read (Multi coin hands) is =
+    let f = (number_within_exact 1 5 (omega arith)).again coin (is.some_coin, is.most_coin) in
+    let n = (number_within_exact 1 100 (omega arith)).again hands (is.some, is.most) in
+    ap (λ o. option_map Over (o >>= λ a. number_within 1 100 (decimal hands) >>= λ b. Some (Multi a b))) f
+    ∙ ap (λ o. option_map Over (o >>= λ b. Some (Multi coin b))) n
 
 -- the words of a command that were read
 abbrev Says : List Word → Command → Type 0

@@ -16,7 +16,7 @@ use Rattle.vp_run.specs.Commands.{command_of}
 use Rattle.vp_run.specs.declared.command.Command.{Command}
 use Rattle.vp_run.specs.declared.command.Command.TheVariants.{Over, Tables}
 use Rattle.vp_run.specs.declared.job.Job.{Job}
-use Rattle.vp_run.specs.declared.job.Job.TheVariants.{Certify, Checked, Deal}
+use Rattle.vp_run.specs.declared.job.Job.TheVariants.{Certify, Checked, Deal, Multi}
 
 front_some : (front back : List ℕ) → 0 < length front → 0 < length (front ++ back)
 front_some front back some = omega (arith, length-append front back)
@@ -27,6 +27,7 @@ unfolding certificate_text table_text checked_lines
 job_some (Deal d) = front_some (line_of (codes "deal" ∷ map card_text d.hand)) _ (omega (arith, length-append (spaced (codes "deal" ∷ map card_text d.hand)) (10 ∷ [])))
 job_some (Certify s) = omega arith
 job_some (Checked c) = omega arith
+job_some (Multi d) = omega arith
 
 read_some : (read : Result Job Stop) → 0 < length (answer_read job_text read).text
 unfolding finding_words

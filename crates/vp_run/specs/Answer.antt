@@ -19,12 +19,13 @@ use Rattle.vp_run.specs.Certify.{certify_input}
 use Rattle.vp_run.specs.Check.{checked_lines, rule_of}
 use Rattle.vp_run.specs.Commands.{command_of, reads}
 use Rattle.vp_run.specs.Deal.{deal_input, deal_lines}
+use Rattle.vp_run.specs.Multi.{multi_input, multi_lines}
 use Rattle.vp_run.specs.declared.command.Command.{Command}
 use Rattle.vp_run.specs.declared.command.Command.TheVariants.{Over, Tables}
 use Rattle.vp_run.specs.declared.command.Task.{Task}
-use Rattle.vp_run.specs.declared.command.Task.TheVariants.{Certify, Check, Deal}
+use Rattle.vp_run.specs.declared.command.Task.TheVariants.{Certify, Check, Deal, Multi}
 use Rattle.vp_run.specs.declared.job.Job.{Job}
-use Rattle.vp_run.specs.declared.job.Job.TheVariants.{Certify as CertifyJob, Checked as CheckedJob, Deal as DealJob}
+use Rattle.vp_run.specs.declared.job.Job.TheVariants.{Certify as CertifyJob, Checked as CheckedJob, Deal as DealJob, Multi as MultiJob}
 
 -- ---- what is read, and its text
 
@@ -39,6 +40,9 @@ deal_job coin read = DealJob (record { table = read.0; coin = coin; hand = read.
 abbrev pub certify_job : ℕ → PayTable × Unit {0} → Job
 certify_job coin read = CertifyJob (record { table = read.0; coin = coin })
 
+abbrev pub multi_job : ℕ → ℕ → PayTable × Unit {0} → Job
+multi_job coin hands read = MultiJob (record { table = read.0; coin = coin; hands = hands })
+
 -- what the check of a certificate gives
 abbrev pub check_read : Result Checked Finding → Result Job Stop
 check_read (Err (RefusedAt line)) = Err (Refusal line)
@@ -50,6 +54,7 @@ abbrev pub job_of : Task → List ℕ → Result Job Stop
 job_of (Deal coin) bytes = read_as (deal_job coin) (deal_input coin bytes)
 job_of (Certify coin) bytes = read_as (certify_job coin) (certify_input coin bytes)
 job_of (Check from count) bytes = check_read (check_result bytes from count)
+job_of (Multi coin hands) bytes = read_as (multi_job coin hands) (multi_input coin bytes)
 
 -- the text of a job
 abbrev pub job_text : Job → List ℕ
@@ -59,6 +64,8 @@ job_text (DealJob d) = written (deal_lines d)
 job_text (CertifyJob s) = written (certificate_text (due_certificate s.table s.coin))
 -- of `check`: what the certificate says of itself
 job_text (CheckedJob checked) = written (checked_lines checked)
+-- of `multi`: the four lines of the moments
+job_text (MultiJob d) = written (multi_lines d)
 
 -- ---- words that need no input
 

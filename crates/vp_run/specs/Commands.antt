@@ -7,7 +7,7 @@ use Rattle.vp_text.specs.Pieces.{◌>>=◌}
 use Rattle.vp_run.specs.declared.command.Command.{Command}
 use Rattle.vp_run.specs.declared.command.Command.TheVariants.{Over, Tables}
 use Rattle.vp_run.specs.declared.command.Task.{Task}
-use Rattle.vp_run.specs.declared.command.Task.TheVariants.{Certify, Check, Deal}
+use Rattle.vp_run.specs.declared.command.Task.TheVariants.{Certify, Check, Deal, Multi}
 
 -- ---- how a command is spelled
 
@@ -16,6 +16,7 @@ abbrev pub task_words : Task → List Word
 task_words (Deal coin) = codes "deal" ∷ decimal coin ∷ []
 task_words (Certify coin) = codes "certify" ∷ decimal coin ∷ []
 task_words (Check from count) = codes "check" ∷ decimal from ∷ decimal count ∷ []
+task_words (Multi coin hands) = codes "multi" ∷ decimal coin ∷ decimal hands ∷ []
 
 -- the words of a command
 abbrev pub command_words : Command → List Word
@@ -28,11 +29,19 @@ pub record IsRange (from count : ℕ) : Type 0 where
   pub most_from : from ≤ 200000
   pub most_count : count ≤ 200000
 
+-- a bet is 1 to 5, and 1 to 100 hands are drawn
+pub record AreHands (coin hands : ℕ) : Type 0 where
+  pub some_coin : 1 ≤ coin
+  pub most_coin : coin ≤ 5
+  pub some : 1 ≤ hands
+  pub most : hands ≤ 100
+
 -- the numbers of a task are in range: a bet is 1 to 5
 abbrev pub InRange : Task → Type 0
 InRange (Deal coin) = (1 ≤ coin) × (coin ≤ 5)
 InRange (Certify coin) = (1 ≤ coin) × (coin ≤ 5)
 InRange (Check from count) = IsRange from count
+InRange (Multi coin hands) = AreHands coin hands
 
 -- the same of a command
 abbrev pub AreInRange : Command → Type 0
@@ -61,13 +70,25 @@ abbrev pub check : List Word → Option Task
 check (first ∷ second ∷ []) = lines_of first second
 check _ = None
 
+-- a bet, and the number of hands
+abbrev pub hands_of : Word → Word → Option Task
+hands_of first second = do
+  coin ← number_within 1 5 first
+  hands ← number_within 1 100 second
+  Some (Multi coin hands)
+
+abbrev pub multi : List Word → Option Task
+multi (first ∷ second ∷ []) = hands_of first second
+multi _ = None
+
 -- the task that a word and its numbers are
 unfoldable pub task_of : Word → List Word → Option Task
 task_of word numbers =
     if bytes_eq word (codes "deal") then bet Deal numbers
     else (if bytes_eq word (codes "certify") then bet Certify numbers
     else (if bytes_eq word (codes "check") then check numbers
-    else None))
+    else (if bytes_eq word (codes "multi") then multi numbers
+    else None)))
 
 -- the command of a word alone
 abbrev pub alone : Word → Option Command

@@ -1,7 +1,7 @@
 //! The commands, as the words of the command line spell them.
 
 ghost use Rattle.std.specs.Prelude.{◌≡◌, ◌≤◌, ℕ, map, option_map, IfSome};
-ghost use Rattle.vp_run.specs.Commands.{AreInRange, InRange, bet, check, coin_of, command_of, lines_of, task_of};
+ghost use Rattle.vp_run.specs.Commands.{AreInRange, InRange, bet, check, coin_of, command_of, hands_of, lines_of, multi, task_of};
 ghost use Rattle.vp_run.specs.declared.command.Task.{Task};
 ghost use Rattle.vp_text.specs.Numbers.{number_within};
 
@@ -17,6 +17,9 @@ pub enum Task {
     /// `check FROM COUNT`: what is wrong with a certificate. The values of COUNT class lines from the place FROM on,
     /// counted from 1, are reckoned again by walking all draws.
     Check { from: u32, count: u32 },
+    /// `multi COIN HANDS`: the moments of the total payment of 1 to 100 hands that are drawn from one deal, for a bet of 1
+    /// to 5 coins.
+    Multi { coin: u8, hands: u8 },
 }
 
 /// A command.
@@ -51,6 +54,7 @@ fn task_of(word: &str, numbers: &[&str]) -> Option<Task>
         "deal" => bet(numbers).map(Task::Deal),
         "certify" => bet(numbers).map(Task::Certify),
         "check" => lines(numbers),
+        "multi" => hands(numbers),
         _ => None,
     }
 }
@@ -95,6 +99,30 @@ fn lines_of(first: &[u8], second: &[u8]) -> Option<Task>
     let from = number_within(1, 200_000, first)?;
     let count = number_within(0, 200_000, second)?;
     Some(Task::Check { from, count })
+}
+
+/// Hands that are drawn from one deal.
+fn hands(numbers: &[&str]) -> Option<Task>
+    ensures is { result ≡ multi (map (λ w. w.now) numbers.now) }
+    ensures range { IfSome result InRange }
+{
+    match numbers {
+        [coin, hands] => hands_of(coin.as_bytes(), hands.as_bytes()),
+        _ => None,
+    }
+}
+
+/// The bet and the number of hands that two words spell.
+fn hands_of(coin: &[u8], hands: &[u8]) -> Option<Task>
+    ensures is { result ≡ hands_of coin.now hands.now }
+    ensures range { IfSome result InRange }
+{
+    let coin = number_within(1, 5, coin)?;
+    let hands = number_within(1, 100, hands)?;
+    Some(Task::Multi {
+        coin: coin as u8,
+        hands: hands as u8,
+    })
 }
 
 /// The number from `least` to `most` that a word spells in its decimal digits.

@@ -1,15 +1,17 @@
 //! What is left to do once an input is read.
 
 ghost use Rattle.std.specs.Prelude.{◌≡◌, ◌≤◌, length};
-ghost use Rattle.vp_run.specs.Answer.{certify_job, check_read, deal_job, job_of, read_as};
+ghost use Rattle.vp_run.specs.Answer.{certify_job, check_read, deal_job, job_of, multi_job, read_as};
 ghost use Rattle.vp_run.specs.Certify.{certify_input};
 ghost use Rattle.vp_run.specs.Commands.{InRange};
 ghost use Rattle.vp_run.specs.Deal.{deal_input};
+ghost use Rattle.vp_run.specs.Multi.{multi_input};
 
 use crate::certify::{CertifyJob, read_certify_input};
 use crate::check::{put_checked, rule_of};
 use crate::command::Task;
 use crate::deal::{DealJob, read_deal_input};
+use crate::multi::MultiJob;
 use vp_answer::{Stop, Work};
 use vp_check::{Checked, Finding, check};
 use vp_io::{Sink, WriteFault};
@@ -21,6 +23,7 @@ pub enum Job {
     Deal(DealJob),
     Certify(CertifyJob),
     Checked(Checked),
+    Multi(MultiJob),
 }
 
 impl Work for Job {
@@ -36,6 +39,7 @@ impl Work for Job {
             Job::Deal(job) => job.words(),
             Job::Certify(job) => job.words(),
             Job::Checked(_) => 0,
+            Job::Multi(job) => job.words(),
         }
     }
 
@@ -44,6 +48,7 @@ impl Work for Job {
             Job::Deal(job) => job.put(region, sink),
             Job::Certify(job) => job.put(region, sink),
             Job::Checked(checked) => put_checked(*checked, sink),
+            Job::Multi(job) => job.put(region, sink),
         }
     }
 }
@@ -58,6 +63,7 @@ pub(crate) fn job_of(task: Task, bytes: &[u8]) -> Result<Job, Stop>
         Task::Deal(coin) => deal_job(coin, bytes),
         Task::Certify(coin) => certify_job(coin, bytes),
         Task::Check { from, count } => check_job(check(bytes, from, count)),
+        Task::Multi { coin, hands } => multi_job(coin, hands, bytes),
     }
 }
 
@@ -79,6 +85,19 @@ fn certify_job(coin: u8, bytes: &[u8]) -> Result<Job, Stop>
 {
     match read_certify_input(bytes, coin) {
         Ok(table) => Ok(Job::Certify(CertifyJob::new(table, coin))),
+        Err(refused) => Err(Stop::Refused { line: refused.line }),
+    }
+}
+
+fn multi_job(coin: u8, hands: u8, bytes: &[u8]) -> Result<Job, Stop>
+    requires some { 1 ≤ coin }
+    requires hands { 1 ≤ hands }
+    requires most { hands ≤ 100 }
+    requires limit { length bytes.now ≤ 67108864 }
+    ensures { result ≡ read_as (multi_job coin hands) (multi_input coin bytes.now) }
+{
+    match read_certify_input(bytes, coin) {
+        Ok(table) => Ok(Job::Multi(MultiJob::new(table, coin, hands))),
         Err(refused) => Err(Stop::Refused { line: refused.line }),
     }
 }

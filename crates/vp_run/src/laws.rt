@@ -4,6 +4,7 @@ ghost use Rattle.vp_run.specs.Certify.{CertifyInputsAreRead};
 ghost use Rattle.vp_run.specs.Check.{CertificatesAreJudged, CheckInputsAreEither, CheckInputsAreRefused};
 ghost use Rattle.vp_run.specs.Commands.{CommandsAreSpelled};
 ghost use Rattle.vp_run.specs.Deal.{DealInputsAreRead};
+ghost use Rattle.vp_run.specs.Multi.{MultiInputsAreRead};
 ghost use Rattle.vp_run.specs.EveryDeal.{CertificatesAreChecked, CertificatesTellEveryDeal, ChecksTellEveryDeal, ChecksTellWalkedDeals, DealsPrintBestHolds};
 
 /// Words are a command exactly where they spell it: its name, and its numbers in decimal digits, each in its range.
@@ -26,6 +27,12 @@ pub fn deal_inputs_are_read()
 /// nothing else. Every other input is refused, exactly at its refused line.
 pub fn certify_inputs_are_read()
     ensures { CertifyInputsAreRead }
+{}
+
+/// What `multi` takes for its input is what the lines of the input spell: a valid pay table that has the bet, and nothing
+/// else. Every other input is refused, exactly at its refused line.
+pub fn multi_inputs_are_read()
+    ensures { MultiInputsAreRead }
 {}
 
 /// What `check` takes for its input is what the lines of the input spell: a certificate in the grammar, and nothing else.
