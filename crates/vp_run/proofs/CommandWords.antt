@@ -9,11 +9,11 @@ use Rattle.vp_text.specs.Pieces.{◌>>=◌}
 use Rattle.vp_text.proofs.Numbers.{number_within_exact}
 use Rattle.vp_pay.specs.Names.{is_name}
 use Rattle.vp_text.proofs.Pieces.{bound, chosen}
-use Rattle.vp_run.specs.Commands.{AreInRange, CommandsAreSpelled, InRange, alone, bet, check, coin_of, command_of, command_words, lines_of, meter, meter_of, task_of, task_words}
+use Rattle.vp_run.specs.Commands.{AreInRange, CommandsAreSpelled, InRange, alone, bet, check, coin_of, command_of, command_words, lines_of, meter, meter_of, task_of, task_words, hands_of, multi}
 use Rattle.vp_run.specs.declared.command.Command.{Command}
 use Rattle.vp_run.specs.declared.command.Command.TheVariants.{Over, Tables}
 use Rattle.vp_run.specs.declared.command.Task.{Task}
-use Rattle.vp_run.specs.declared.command.Task.TheVariants.{Certify, Check, Deal, Replay, Meter, Audit}
+use Rattle.vp_run.specs.declared.command.Task.TheVariants.{Certify, Check, Deal, Replay, Meter, Audit, Multi}
 
 -- the words spell the task, and its numbers are in range
 abbrev Spells : List Word → Task → Type 0
@@ -81,6 +81,18 @@ a_meter (stake ∷ line ∷ least ∷ greatest ∷ []) read e =
     let same : Meter coin.value name.value lo.value hi.value ≡ read = (let e : Some (Meter coin.value name.value lo.value hi.value) ≡ Some read = lo.then in cc) in
     subst (λ (t : Task). Spells (codes "meter" ∷ stake ∷ line ∷ least ∷ greatest ∷ []) t) same
     (meter_same _ _ _ _ _ _ _ _ (sym k.1) n.1 (sym l.1) (sym h.1), record { some = k.0.0; most = k.0.1; name = ap is_name (sym n.1) ∙ n.0; order = l.0.1; most_payment = h.0.1 })
+a_multi : (numbers : List Word) (read : Task) → multi numbers ≡ Some read → Spells (codes "multi" ∷ numbers) read
+a_multi [] read e = absurd cc
+a_multi (first ∷ []) read e = absurd cc
+a_multi (first ∷ second ∷ third ∷ more) read e = absurd cc
+a_multi (first ∷ second ∷ []) read e =
+    let coin = bound (number_within 1 5 first) _ read e in
+    let hands = bound (number_within 1 100 second) _ read coin.then in
+    let f = digits 1 5 first coin.value (omega arith) coin.first in
+    let n = digits 1 100 second hands.value (omega arith) hands.first in
+    let same : Multi coin.value hands.value ≡ read = (let e : Some (Multi coin.value hands.value) ≡ Some read = hands.then in cc) in
+    subst (λ (t : Task). Spells (codes "multi" ∷ first ∷ second ∷ []) t) same
+    (ap (λ (w : Word). codes "multi" ∷ w ∷ second ∷ []) (sym f.1) ∙ ap (λ (w : Word). codes "multi" ∷ decimal coin.value ∷ w ∷ []) (sym n.1), record { some_coin = f.0.0; most_coin = f.0.1; some = n.0.0; most = n.0.1 })
 
 -- a word that is this key, and else the choice behind it
 keyed : (key word : Word) (numbers : List Word) (here other : Option Task) (read : Task) → (if bytes_eq word key then here else other) ≡ Some read
@@ -98,7 +110,8 @@ task_spelled word numbers read e =
     keyed (codes "certify") word numbers (bet Certify numbers) _ read e (a_bet (codes "certify") Certify (λ coin. refl) (λ coin is. is) numbers read) (λ e.
     keyed (codes "audit") word numbers (bet Audit numbers) _ read e (a_bet (codes "audit") Audit (λ coin. refl) (λ coin is. is) numbers read) (λ e.
     keyed (codes "check") word numbers (check numbers) _ read e (a_check numbers read) (λ e.
-    keyed (codes "meter") word numbers (meter numbers) None read e (a_meter numbers read) (λ none. absurd cc)))))
+    keyed (codes "meter") word numbers (meter numbers) _ read e (a_meter numbers read) (λ e.
+    keyed (codes "multi") word numbers (multi numbers) None read e (a_multi numbers read) (λ none. absurd cc))))))
 
 task_read : (task : Task) → InRange task → command_of (task_words task) ≡ Some (Over task)
 unfolding command_of task_of coin_of
@@ -120,6 +133,11 @@ task_read (Meter coin line lo hi) is =
     ∙ ap (λ o. option_map Over (o >>= λ b. number_within 0 500000 (decimal hi) >>= λ c. number_within 0 c (decimal lo) >>= λ d. Some (Meter coin b d c))) n
     ∙ ap (λ o. option_map Over (o >>= λ c. number_within 0 c (decimal lo) >>= λ d. Some (Meter coin line d c))) h
     ∙ ap (λ o. option_map Over (o >>= λ d. Some (Meter coin line d hi))) l
+task_read (Multi coin hands) is =
+    let f = (number_within_exact 1 5 (omega arith)).again coin (is.some_coin, is.most_coin) in
+    let n = (number_within_exact 1 100 (omega arith)).again hands (is.some, is.most) in
+    ap (λ o. option_map Over (o >>= λ a. number_within 1 100 (decimal hands) >>= λ b. Some (Multi a b))) f
+    ∙ ap (λ o. option_map Over (o >>= λ b. Some (Multi coin b))) n
 
 -- the words of a command that were read
 abbrev Says : List Word → Command → Type 0

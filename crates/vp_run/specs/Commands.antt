@@ -8,7 +8,7 @@ use Rattle.vp_pay.specs.Names.{is_name}
 use Rattle.vp_run.specs.declared.command.Command.{Command}
 use Rattle.vp_run.specs.declared.command.Command.TheVariants.{Over, Tables}
 use Rattle.vp_run.specs.declared.command.Task.{Task}
-use Rattle.vp_run.specs.declared.command.Task.TheVariants.{Certify, Check, Deal, Replay, Meter, Audit}
+use Rattle.vp_run.specs.declared.command.Task.TheVariants.{Certify, Check, Deal, Replay, Meter, Audit, Multi}
 
 -- ---- how a command is spelled
 
@@ -20,6 +20,7 @@ task_words (Audit coin) = codes "audit" ∷ decimal coin ∷ []
 task_words (Check from count) = codes "check" ∷ decimal from ∷ decimal count ∷ []
 task_words Replay = codes "replay" ∷ []
 task_words (Meter coin line lo hi) = codes "meter" ∷ decimal coin ∷ line ∷ decimal lo ∷ decimal hi ∷ []
+task_words (Multi coin hands) = codes "multi" ∷ decimal coin ∷ decimal hands ∷ []
 
 -- the words of a command
 abbrev pub command_words : Command → List Word
@@ -39,6 +40,12 @@ pub record IsMeter (coin : ℕ) (line : Word) (lo hi : ℕ) : Type 0 where
   pub name : is_name line ≡ true
   pub order : lo ≤ hi
   pub most_payment : hi ≤ 500000
+-- a bet is 1 to 5, and 1 to 100 hands are drawn
+pub record AreHands (coin hands : ℕ) : Type 0 where
+  pub some_coin : 1 ≤ coin
+  pub most_coin : coin ≤ 5
+  pub some : 1 ≤ hands
+  pub most : hands ≤ 100
 
 -- the numbers of a task are in range: a bet is 1 to 5
 abbrev pub InRange : Task → Type 0
@@ -48,6 +55,7 @@ InRange (Audit coin) = (1 ≤ coin) × (coin ≤ 5)
 InRange (Check from count) = IsRange from count
 InRange Replay = Unit {0}
 InRange (Meter coin line lo hi) = IsMeter coin line lo hi
+InRange (Multi coin hands) = AreHands coin hands
 
 -- the same of a command
 abbrev pub AreInRange : Command → Type 0
@@ -89,6 +97,17 @@ abbrev pub meter : List Word → Option Task
 meter (coin ∷ line ∷ lo ∷ hi ∷ []) = meter_of coin line lo hi
 meter _ = None
 
+-- a bet, and the number of hands
+abbrev pub hands_of : Word → Word → Option Task
+hands_of first second = do
+  coin ← number_within 1 5 first
+  hands ← number_within 1 100 second
+  Some (Multi coin hands)
+
+abbrev pub multi : List Word → Option Task
+multi (first ∷ second ∷ []) = hands_of first second
+multi _ = None
+
 -- the task that a word and its numbers are
 unfoldable pub task_of : Word → List Word → Option Task
 task_of word numbers =
@@ -97,7 +116,8 @@ task_of word numbers =
     else (if bytes_eq word (codes "audit") then bet Audit numbers
     else (if bytes_eq word (codes "check") then check numbers
     else (if bytes_eq word (codes "meter") then meter numbers
-    else None))))
+    else (if bytes_eq word (codes "multi") then multi numbers
+    else None)))))
 
 -- the command of a word alone
 abbrev pub alone : Word → Option Command

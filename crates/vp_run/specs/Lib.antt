@@ -1,6 +1,7 @@
 pub mod Commands
 pub mod Deal
 pub mod Certify
+pub mod Multi
 pub mod Check
 pub mod Replay
 pub mod Meter

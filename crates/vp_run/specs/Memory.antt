@@ -7,10 +7,10 @@ use Rattle.vp_run.specs.Commands.{command_of}
 use Rattle.vp_run.specs.declared.command.Command.{Command}
 use Rattle.vp_run.specs.declared.command.Command.TheVariants.{Over, Tables}
 use Rattle.vp_run.specs.declared.job.Job.{Job}
-use Rattle.vp_run.specs.declared.job.Job.TheVariants.{Certify, Checked, Deal, Replay, Meter, Audit}
+use Rattle.vp_run.specs.declared.job.Job.TheVariants.{Certify, Checked, Deal, Replay, Meter, Audit, Multi}
 
--- `deal`, `certify` and `audit` need a table of sums for the deck of their pay table, and `replay` one for each bet; `check` walks the
--- draws in place; `meter` needs two such tables, and four words for each payment
+-- `deal`, `certify` and `audit` need a table of sums for the deck of their pay table, `multi` two, and `replay` one for each bet; `check`
+-- walks the draws in place; `meter` needs two such tables, and four words for each payment
 abbrev pub job_words : Job → ℕ
 job_words (Deal d) = first_word d.table.deck 6
 job_words (Certify s) = first_word s.table.deck 6
@@ -18,6 +18,7 @@ job_words (Audit l) = first_word l.table.deck 6
 job_words (Checked c) = 0
 job_words (Replay l) = l.table.coins * first_word l.table.deck 6
 job_words (Meter r) = 2 * first_word r.metering.table.deck 6 + 4 * (r.hi - r.lo + 1)
+job_words (Multi d) = 2 * first_word d.table.deck 6
 
 -- what a command needs; `tables` reads no input
 abbrev pub command_room : Option Command → List ℕ → ℕ

@@ -1,7 +1,7 @@
 //! The commands, as the words of the command line spell them.
 
 ghost use Rattle.std.specs.Prelude.{◌≡◌, ◌≤◌, ℕ, map, option_map, IfSome};
-ghost use Rattle.vp_run.specs.Commands.{AreInRange, InRange, alone, bet, check, coin_of, command_of, lines_of, task_of, meter, meter_of};
+ghost use Rattle.vp_run.specs.Commands.{AreInRange, InRange, alone, bet, check, coin_of, command_of, lines_of, task_of, meter, meter_of, hands_of, multi};
 ghost use Rattle.vp_run.specs.declared.command.Task.{Task};
 ghost use Rattle.vp_text.specs.Numbers.{number_within};
 
@@ -33,6 +33,9 @@ pub enum Task {
         lo: u32,
         hi: u32,
     },
+    /// `multi COIN HANDS`: the moments of the total payment of 1 to 100 hands that are drawn from one deal, for a bet of 1
+    /// to 5 coins.
+    Multi { coin: u8, hands: u8 },
 }
 
 /// A command.
@@ -81,6 +84,7 @@ fn task_of(word: &str, numbers: &[&str]) -> Option<Task>
         "audit" => bet(numbers).map(Task::Audit),
         "check" => lines(numbers),
         "meter" => meter(numbers),
+        "multi" => hands(numbers),
         _ => None,
     }
 }
@@ -153,6 +157,30 @@ fn meter_of(bet: &[u8], line: &[u8], least: &[u8], greatest: &[u8]) -> Option<Ta
     let hi = number_within(0, 500_000, greatest)?;
     let lo = number_within(0, hi, least)?;
     Some(Task::Meter { coin, line, lo, hi })
+}
+
+/// Hands that are drawn from one deal.
+fn hands(numbers: &[&str]) -> Option<Task>
+    ensures is { result ≡ multi (map (λ w. w.now) numbers.now) }
+    ensures range { IfSome result InRange }
+{
+    match numbers {
+        [coin, hands] => hands_of(coin.as_bytes(), hands.as_bytes()),
+        _ => None,
+    }
+}
+
+/// The bet and the number of hands that two words spell.
+fn hands_of(coin: &[u8], hands: &[u8]) -> Option<Task>
+    ensures is { result ≡ hands_of coin.now hands.now }
+    ensures range { IfSome result InRange }
+{
+    let coin = number_within(1, 5, coin)?;
+    let hands = number_within(1, 100, hands)?;
+    Some(Task::Multi {
+        coin: coin as u8,
+        hands: hands as u8,
+    })
 }
 
 /// The number from `least` to `most` that a word spells in its decimal digits.

@@ -3,13 +3,14 @@
 ghost use Rattle.std.specs.Prelude.{◌≡◌, ◌≤◌, length};
 ghost use Rattle.vp_loggram.specs.Logs.{IsLog};
 ghost use Rattle.vp_pay.specs.Table.{IsTable};
-ghost use Rattle.vp_run.specs.Answer.{certify_job, check_read, deal_job, job_of, log_read, read_as, replay_read, meter_job, audit_job};
+ghost use Rattle.vp_run.specs.Answer.{certify_job, check_read, deal_job, job_of, log_read, read_as, replay_read, meter_job, audit_job, multi_job};
 ghost use Rattle.vp_run.specs.Audit.{audit_input};
 ghost use Rattle.vp_run.specs.Certify.{certify_input};
 ghost use Rattle.vp_run.specs.Commands.{InRange};
 ghost use Rattle.vp_run.specs.Deal.{deal_input};
 ghost use Rattle.vp_run.specs.Replay.{replay_input};
 ghost use Rattle.vp_run.specs.Meter.{meter_input};
+ghost use Rattle.vp_run.specs.Multi.{multi_input};
 
 use crate::audit::{AuditJob, read_audit_input};
 use crate::certify::{CertifyJob, read_certify_input};
@@ -17,6 +18,7 @@ use crate::check::{put_checked, rule_of};
 use crate::command::Task;
 use crate::deal::{DealJob, read_deal_input};
 use crate::replay::{ReplayJob, first_break, read_replay_input, rule_of as law_of};
+use crate::multi::MultiJob;
 use vp_answer::{Stop, Work};
 use vp_check::{Checked, Finding, check};
 use vp_io::{Sink, WriteFault};
@@ -34,6 +36,7 @@ pub enum Job<'a> {
     Checked(Checked),
     Replay(ReplayJob<'a>),
     Meter(MeterJob),
+    Multi(MultiJob),
 }
 
 impl<'a> Work for Job<'a> {
@@ -52,6 +55,7 @@ impl<'a> Work for Job<'a> {
             Job::Checked(_) => 0,
             Job::Replay(job) => job.words(),
             Job::Meter(job) => job.words(),
+            Job::Multi(job) => job.words(),
         }
     }
 
@@ -63,6 +67,7 @@ impl<'a> Work for Job<'a> {
             Job::Checked(checked) => put_checked(*checked, sink),
             Job::Replay(job) => job.put(region, sink),
             Job::Meter(job) => job.put(region, sink),
+            Job::Multi(job) => job.put(region, sink),
         }
     }
 }
@@ -80,6 +85,7 @@ pub(crate) fn job_of(task: Task, bytes: &[u8]) -> Result<Job<'_>, Stop>
         Task::Check { from, count } => check_job(check(bytes, from, count)),
         Task::Replay => replay_job(bytes),
         Task::Meter { coin, line, lo, hi } => meter_job(coin, &line, lo, hi, bytes),
+        Task::Multi { coin, hands } => multi_job(coin, hands, bytes),
     }
 }
 
@@ -120,6 +126,15 @@ fn meter_job<'a>(
 {
     match read_meter_input(bytes, coin, name) {
         Ok((table, line)) => Ok(Job::Meter(MeterJob::new(table, coin, line, lo, hi))),
+fn multi_job(coin: u8, hands: u8, bytes: &[u8]) -> Result<Job<'_>, Stop>
+    requires some { 1 ≤ coin }
+    requires hands { 1 ≤ hands }
+    requires most { hands ≤ 100 }
+    requires limit { length bytes.now ≤ 67108864 }
+    ensures { result ≡ read_as (multi_job coin hands) (multi_input coin bytes.now) }
+{
+    match read_certify_input(bytes, coin) {
+        Ok(table) => Ok(Job::Multi(MultiJob::new(table, coin, hands))),
         Err(refused) => Err(Stop::Refused { line: refused.line }),
     }
 }

@@ -9,6 +9,7 @@ ghost use Rattle.vp_run.specs.Replay.{ReplayInputsAreRead};
 ghost use Rattle.vp_run.specs.Replayed.{ReplaysTellCosts};
 ghost use Rattle.vp_run.specs.EveryDeal.{CertificatesAreChecked, CertificatesTellEveryDeal, ChecksTellEveryDeal, ChecksTellWalkedDeals, DealsPrintBestHolds, MetersAreTold};
 ghost use Rattle.vp_run.specs.Meter.{MeterInputsAreRead};
+ghost use Rattle.vp_run.specs.Multi.{MultiInputsAreRead};
 
 /// Words are a command exactly where they spell it: its name, and its numbers in decimal digits, each in its range.
 pub fn commands_are_spelled()
@@ -36,6 +37,10 @@ pub fn certify_inputs_are_read()
 /// strategy list for it, and nothing else. Every other input is refused, exactly at its refused line.
 pub fn audit_inputs_are_read()
     ensures { AuditInputsAreRead }
+/// What `multi` takes for its input is what the lines of the input spell: a valid pay table that has the bet, and nothing
+/// else. Every other input is refused, exactly at its refused line.
+pub fn multi_inputs_are_read()
+    ensures { MultiInputsAreRead }
 {}
 
 /// What `check` takes for its input is what the lines of the input spell: a certificate in the grammar, and nothing else.
