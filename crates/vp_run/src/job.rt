@@ -126,6 +126,10 @@ fn meter_job<'a>(
 {
     match read_meter_input(bytes, coin, name) {
         Ok((table, line)) => Ok(Job::Meter(MeterJob::new(table, coin, line, lo, hi))),
+        Err(refused) => Err(Stop::Refused { line: refused.line }),
+    }
+}
+
 fn multi_job(coin: u8, hands: u8, bytes: &[u8]) -> Result<Job<'_>, Stop>
     requires some { 1 ≤ coin }
     requires hands { 1 ≤ hands }

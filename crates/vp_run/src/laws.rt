@@ -37,6 +37,8 @@ pub fn certify_inputs_are_read()
 /// strategy list for it, and nothing else. Every other input is refused, exactly at its refused line.
 pub fn audit_inputs_are_read()
     ensures { AuditInputsAreRead }
+{}
+
 /// What `multi` takes for its input is what the lines of the input spell: a valid pay table that has the bet, and nothing
 /// else. Every other input is refused, exactly at its refused line.
 pub fn multi_inputs_are_read()
