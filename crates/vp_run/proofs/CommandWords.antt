@@ -12,7 +12,7 @@ use Rattle.vp_run.specs.Commands.{AreInRange, CommandsAreSpelled, InRange, alone
 use Rattle.vp_run.specs.declared.command.Command.{Command}
 use Rattle.vp_run.specs.declared.command.Command.TheVariants.{Over, Tables}
 use Rattle.vp_run.specs.declared.command.Task.{Task}
-use Rattle.vp_run.specs.declared.command.Task.TheVariants.{Certify, Check, Deal}
+use Rattle.vp_run.specs.declared.command.Task.TheVariants.{Certify, Check, Deal, Replay}
 
 -- the words spell the task, and its numbers are in range
 abbrev Spells : List Word → Task → Type 0
@@ -74,6 +74,7 @@ task_read (Check from count) is =
     let n = (number_within_exact 0 200000 (omega arith)).again count (omega arith, is.most_count) in
     ap (λ o. option_map Over (o >>= λ a. number_within 0 200000 (decimal count) >>= λ b. Some (Check a b))) f
     ∙ ap (λ o. option_map Over (o >>= λ b. Some (Check from b))) n
+task_read Replay is = refl
 
 -- the words of a command that were read
 abbrev Says : List Word → Command → Type 0
@@ -87,9 +88,11 @@ over_spelled words (Some task) command e is =
 
 alone_spelled : (word : Word) (command : Command) → alone word ≡ Some command → Says (word ∷ []) command
 alone_spelled word command e =
-    chosen (λ (c : Command). Says (word ∷ []) c) (bytes_eq word (codes "tables")) (Some Tables) None command e
+    chosen (λ (c : Command). Says (word ∷ []) c) (bytes_eq word (codes "tables")) (Some Tables) (if bytes_eq word (codes "replay") then Some (Over Replay) else None) command e
     (λ is said. let same : Tables ≡ command = cc in subst (λ (c : Command). Says (word ∷ []) c) same (ap (λ (w : Word). w ∷ []) ((bytes_eq-Decides word (codes "tables")).0 is), tt))
-    (λ none. absurd cc)
+    (λ other. chosen (λ (c : Command). Says (word ∷ []) c) (bytes_eq word (codes "replay")) (Some (Over Replay)) None command other
+    (λ is said. let same : Over Replay ≡ command = cc in subst (λ (c : Command). Says (word ∷ []) c) same (ap (λ (w : Word). w ∷ []) ((bytes_eq-Decides word (codes "replay")).0 is), tt))
+    (λ none. absurd cc))
 
 read_spelled : (words : List Word) (command : Command) → command_of words ≡ Some command → Says words command
 unfolding command_of

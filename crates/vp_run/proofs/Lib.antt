@@ -2,6 +2,8 @@ pub mod NoCommand
 pub mod CommandWords
 pub mod CheckInputs
 pub mod EveryDeals
+pub mod ReplayWords
+pub mod Replays
 pub mod GivenWords
 pub mod SomeText
 pub mod DealtHands

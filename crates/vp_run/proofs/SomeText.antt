@@ -1,12 +1,15 @@
 -- No answer is empty.
-use Rattle.std.proofs.Common.{◌≡◌, ℕ, ◌<◌, List, [], ◌∷◌, ◌++◌, length, arith, length-append, Option, Some, None, Result, Ok, Err}
+use Rattle.std.proofs.Common.{◌≡◌, ℕ, ◌<◌, List, [], ◌∷◌, ◌++◌, true, length, arith, length-append, Option, Some, None, Result, Ok, Err}
 use Rattle.std.specs.Prelude.{codes, map}
 use Rattle.vp_card.specs.Texts.{card_text}
+use Rattle.std.proofs.lemmas.List.Concat.{flat_map-append}
+use Rattle.vp_text.specs.Sections.{Text}
 use Rattle.vp_text.specs.Written.{line_of, spaced, written}
 use Rattle.vp_check.specs.Spelling.{certificate_text}
 use Rattle.vp_check.specs.Truth.{due_certificate}
 use Rattle.vp_pay.specs.BuiltIn.{built_in}
 use Rattle.vp_pay.specs.Spelling.{table_text}
+use Rattle.vp_replay.specs.Summaries.{cost_lines, summary_lines, summary_of}
 use Rattle.vp_answer.specs.Answers.{answer_read, finding_words}
 use Rattle.vp_answer.specs.declared.stop.Stop.{Stop}
 use Rattle.vp_answer.specs.declared.stop.Stop.TheVariants.{Finding, Refused}
@@ -16,10 +19,13 @@ use Rattle.vp_run.specs.Commands.{command_of}
 use Rattle.vp_run.specs.declared.command.Command.{Command}
 use Rattle.vp_run.specs.declared.command.Command.TheVariants.{Over, Tables}
 use Rattle.vp_run.specs.declared.job.Job.{Job}
-use Rattle.vp_run.specs.declared.job.Job.TheVariants.{Certify, Checked, Deal}
+use Rattle.vp_run.specs.declared.job.Job.TheVariants.{Certify, Checked, Deal, Replay}
 
 front_some : (front back : List ℕ) → 0 < length front → 0 < length (front ++ back)
 front_some front back some = omega (arith, length-append front back)
+
+behind_some : (front back : Text) → 0 < length (written back) → 0 < length (written (front ++ back))
+behind_some front back some = rw (flat_map-append line_of front back) (omega (arith, length-append (written front) (written back)))
 
 -- a line for each job
 job_some : (job : Job) → 0 < length (job_text job)
@@ -27,6 +33,7 @@ unfolding certificate_text table_text checked_lines
 job_some (Deal d) = front_some (line_of (codes "deal" ∷ map card_text d.hand)) _ (omega (arith, length-append (spaced (codes "deal" ∷ map card_text d.hand)) (10 ∷ [])))
 job_some (Certify s) = omega arith
 job_some (Checked c) = omega arith
+job_some (Replay l) = behind_some (cost_lines l.table true 1 l.log.events) (summary_lines l.table.deck (summary_of l.table l.log)) (omega arith)
 
 read_some : (read : Result Job Stop) → 0 < length (answer_read job_text read).text
 unfolding finding_words

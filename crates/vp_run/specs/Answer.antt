@@ -8,9 +8,13 @@ use Rattle.vp_check.specs.Truth.{due_certificate}
 use Rattle.vp_check.specs.declared.finding.Checked.{Checked}
 use Rattle.vp_check.specs.declared.finding.Finding.{Finding}
 use Rattle.vp_check.specs.declared.finding.Finding.TheVariants.{Refused as RefusedAt, Bad}
+use Rattle.vp_loggram.specs.Logs.{LogValue}
 use Rattle.vp_pay.specs.BuiltIn.{built_in}
 use Rattle.vp_pay.specs.Spelling.{table_text}
 use Rattle.vp_pay.specs.declared.table.PayTable.{PayTable}
+use Rattle.vp_replay.specs.Rules.{break_in}
+use Rattle.vp_replay.specs.Summaries.{replay_lines}
+use Rattle.vp_replay.specs.declared.rule.Broken.{Broken}
 use Rattle.vp_answer.specs.Answers.{Answer, answer_read, done}
 use Rattle.vp_answer.specs.declared.status.Status.TheVariants.{Usage}
 use Rattle.vp_answer.specs.declared.stop.Stop.{Stop}
@@ -19,12 +23,13 @@ use Rattle.vp_run.specs.Certify.{certify_input}
 use Rattle.vp_run.specs.Check.{checked_lines, rule_of}
 use Rattle.vp_run.specs.Commands.{command_of, reads}
 use Rattle.vp_run.specs.Deal.{deal_input, deal_lines}
+use Rattle.vp_run.specs.Replay.{replay_input, rule_of as law_of}
 use Rattle.vp_run.specs.declared.command.Command.{Command}
 use Rattle.vp_run.specs.declared.command.Command.TheVariants.{Over, Tables}
 use Rattle.vp_run.specs.declared.command.Task.{Task}
-use Rattle.vp_run.specs.declared.command.Task.TheVariants.{Certify, Check, Deal}
+use Rattle.vp_run.specs.declared.command.Task.TheVariants.{Certify, Check, Deal, Replay}
 use Rattle.vp_run.specs.declared.job.Job.{Job}
-use Rattle.vp_run.specs.declared.job.Job.TheVariants.{Certify as CertifyJob, Checked as CheckedJob, Deal as DealJob}
+use Rattle.vp_run.specs.declared.job.Job.TheVariants.{Certify as CertifyJob, Checked as CheckedJob, Deal as DealJob, Replay as ReplayJob}
 
 -- ---- what is read, and its text
 
@@ -45,11 +50,25 @@ check_read (Err (RefusedAt line)) = Err (Refusal line)
 check_read (Err (Bad line rule said due)) = Err (Found line (rule_of rule) said due)
 check_read (Ok checked) = Ok (CheckedJob checked)
 
+-- a log is stopped at its first broken law, where there is one
+abbrev pub judged_log : PayTable → LogValue → Option Broken → Result Job Stop
+judged_log table log None = Ok (ReplayJob (record { table = table; log = log }))
+judged_log table log (Some b) = Err (Found b.game (law_of b.rule) b.said b.due)
+
+abbrev pub replay_read : PayTable → LogValue → Result Job Stop
+replay_read table log = judged_log table log (break_in table log)
+
+-- what an input of a pay table and a log gives
+abbrev pub log_read : Result (PayTable × LogValue) ℕ → Result Job Stop
+log_read (Ok read) = replay_read read.0 read.1
+log_read (Err line) = Err (Refusal line)
+
 -- what is left to do once a task has read its input, or where it stops
 abbrev pub job_of : Task → List ℕ → Result Job Stop
 job_of (Deal coin) bytes = read_as (deal_job coin) (deal_input coin bytes)
 job_of (Certify coin) bytes = read_as (certify_job coin) (certify_input coin bytes)
 job_of (Check from count) bytes = check_read (check_result bytes from count)
+job_of Replay bytes = log_read (replay_input bytes)
 
 -- the text of a job
 abbrev pub job_text : Job → List ℕ
@@ -59,6 +78,8 @@ job_text (DealJob d) = written (deal_lines d)
 job_text (CertifyJob s) = written (certificate_text (due_certificate s.table s.coin))
 -- of `check`: what the certificate says of itself
 job_text (CheckedJob checked) = written (checked_lines checked)
+-- of `replay`: the costs of its games, and the numbers of the log
+job_text (ReplayJob l) = written (replay_lines l.table l.log)
 
 -- ---- words that need no input
 

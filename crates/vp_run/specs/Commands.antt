@@ -7,7 +7,7 @@ use Rattle.vp_text.specs.Pieces.{◌>>=◌}
 use Rattle.vp_run.specs.declared.command.Command.{Command}
 use Rattle.vp_run.specs.declared.command.Command.TheVariants.{Over, Tables}
 use Rattle.vp_run.specs.declared.command.Task.{Task}
-use Rattle.vp_run.specs.declared.command.Task.TheVariants.{Certify, Check, Deal}
+use Rattle.vp_run.specs.declared.command.Task.TheVariants.{Certify, Check, Deal, Replay}
 
 -- ---- how a command is spelled
 
@@ -16,6 +16,7 @@ abbrev pub task_words : Task → List Word
 task_words (Deal coin) = codes "deal" ∷ decimal coin ∷ []
 task_words (Certify coin) = codes "certify" ∷ decimal coin ∷ []
 task_words (Check from count) = codes "check" ∷ decimal from ∷ decimal count ∷ []
+task_words Replay = codes "replay" ∷ []
 
 -- the words of a command
 abbrev pub command_words : Command → List Word
@@ -33,6 +34,7 @@ abbrev pub InRange : Task → Type 0
 InRange (Deal coin) = (1 ≤ coin) × (coin ≤ 5)
 InRange (Certify coin) = (1 ≤ coin) × (coin ≤ 5)
 InRange (Check from count) = IsRange from count
+InRange Replay = Unit {0}
 
 -- the same of a command
 abbrev pub AreInRange : Command → Type 0
@@ -71,7 +73,7 @@ task_of word numbers =
 
 -- the command of a word alone
 abbrev pub alone : Word → Option Command
-alone word = if bytes_eq word (codes "tables") then Some Tables else None
+alone word = if bytes_eq word (codes "tables") then Some Tables else (if bytes_eq word (codes "replay") then Some (Over Replay) else None)
 
 -- the command that the words are, if they are one
 unfoldable pub command_of : List Word → Option Command

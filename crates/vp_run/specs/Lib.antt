@@ -2,7 +2,9 @@ pub mod Commands
 pub mod Deal
 pub mod Certify
 pub mod Check
+pub mod Replay
 pub mod Answer
 pub mod Memory
 pub mod Arguments
 pub mod EveryDeal
+pub mod Replayed

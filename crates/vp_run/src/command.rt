@@ -1,7 +1,7 @@
 //! The commands, as the words of the command line spell them.
 
 ghost use Rattle.std.specs.Prelude.{◌≡◌, ◌≤◌, ℕ, map, option_map, IfSome};
-ghost use Rattle.vp_run.specs.Commands.{AreInRange, InRange, bet, check, coin_of, command_of, lines_of, task_of};
+ghost use Rattle.vp_run.specs.Commands.{AreInRange, InRange, alone, bet, check, coin_of, command_of, lines_of, task_of};
 ghost use Rattle.vp_run.specs.declared.command.Task.{Task};
 ghost use Rattle.vp_text.specs.Numbers.{number_within};
 
@@ -17,6 +17,8 @@ pub enum Task {
     /// `check FROM COUNT`: what is wrong with a certificate. The values of COUNT class lines from the place FROM on,
     /// counted from 1, are reckoned again by walking all draws.
     Check { from: u32, count: u32 },
+    /// `replay`: the first broken law of a log of games, or what its holds cost.
+    Replay,
 }
 
 /// A command.
@@ -35,8 +37,20 @@ pub(crate) fn command_of(words: &[&str]) -> Option<Command>
     ensures range { IfSome result AreInRange }
 {
     match words {
-        [word] if *word == "tables" => Some(Command::Tables),
+        [word] => alone(word),
         [word, numbers @ ..] if !numbers.is_empty() => task_of(word, numbers).map(Command::Over),
+        _ => None,
+    }
+}
+
+/// The command that a word alone is.
+fn alone(word: &str) -> Option<Command>
+    ensures is { result ≡ alone word.now }
+    ensures range { IfSome result AreInRange }
+{
+    match word {
+        "tables" => Some(Command::Tables),
+        "replay" => Some(Command::Over(Task::Replay)),
         _ => None,
     }
 }

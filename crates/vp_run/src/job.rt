@@ -1,29 +1,36 @@
 //! What is left to do once an input is read.
 
 ghost use Rattle.std.specs.Prelude.{◌≡◌, ◌≤◌, length};
-ghost use Rattle.vp_run.specs.Answer.{certify_job, check_read, deal_job, job_of, read_as};
+ghost use Rattle.vp_loggram.specs.Logs.{IsLog};
+ghost use Rattle.vp_pay.specs.Table.{IsTable};
+ghost use Rattle.vp_run.specs.Answer.{certify_job, check_read, deal_job, job_of, log_read, read_as, replay_read};
 ghost use Rattle.vp_run.specs.Certify.{certify_input};
 ghost use Rattle.vp_run.specs.Commands.{InRange};
 ghost use Rattle.vp_run.specs.Deal.{deal_input};
+ghost use Rattle.vp_run.specs.Replay.{replay_input};
 
 use crate::certify::{CertifyJob, read_certify_input};
 use crate::check::{put_checked, rule_of};
 use crate::command::Task;
 use crate::deal::{DealJob, read_deal_input};
+use crate::replay::{ReplayJob, first_break, read_replay_input, rule_of as law_of};
 use vp_answer::{Stop, Work};
 use vp_check::{Checked, Finding, check};
 use vp_io::{Sink, WriteFault};
+use vp_loggram::Log;
+use vp_pay::PayTable;
 use vp_region::Region;
 
 /// What is left to do once an input is read.
 #[derive(Drop)]
-pub enum Job {
+pub enum Job<'a> {
     Deal(DealJob),
     Certify(CertifyJob),
     Checked(Checked),
+    Replay(ReplayJob<'a>),
 }
 
-impl Work for Job {
+impl<'a> Work for Job<'a> {
     ghost use Rattle.vp_run.specs.Answer.{job_text};
     ghost use Rattle.vp_run.specs.Memory.{job_words};
 
@@ -36,6 +43,7 @@ impl Work for Job {
             Job::Deal(job) => job.words(),
             Job::Certify(job) => job.words(),
             Job::Checked(_) => 0,
+            Job::Replay(job) => job.words(),
         }
     }
 
@@ -44,12 +52,13 @@ impl Work for Job {
             Job::Deal(job) => job.put(region, sink),
             Job::Certify(job) => job.put(region, sink),
             Job::Checked(checked) => put_checked(*checked, sink),
+            Job::Replay(job) => job.put(region, sink),
         }
     }
 }
 
 /// Reads the input of a task.
-pub(crate) fn job_of(task: Task, bytes: &[u8]) -> Result<Job, Stop>
+pub(crate) fn job_of(task: Task, bytes: &[u8]) -> Result<Job<'_>, Stop>
     requires range { InRange task }
     requires limit { length bytes.now ≤ 67108864 }
     ensures { result ≡ job_of task bytes.now }
@@ -58,10 +67,11 @@ pub(crate) fn job_of(task: Task, bytes: &[u8]) -> Result<Job, Stop>
         Task::Deal(coin) => deal_job(coin, bytes),
         Task::Certify(coin) => certify_job(coin, bytes),
         Task::Check { from, count } => check_job(check(bytes, from, count)),
+        Task::Replay => replay_job(bytes),
     }
 }
 
-fn deal_job(coin: u8, bytes: &[u8]) -> Result<Job, Stop>
+fn deal_job(coin: u8, bytes: &[u8]) -> Result<Job<'_>, Stop>
     requires some { 1 ≤ coin }
     requires limit { length bytes.now ≤ 67108864 }
     ensures { result ≡ read_as (deal_job coin) (deal_input coin bytes.now) }
@@ -72,7 +82,7 @@ fn deal_job(coin: u8, bytes: &[u8]) -> Result<Job, Stop>
     }
 }
 
-fn certify_job(coin: u8, bytes: &[u8]) -> Result<Job, Stop>
+fn certify_job(coin: u8, bytes: &[u8]) -> Result<Job<'_>, Stop>
     requires some { 1 ≤ coin }
     requires limit { length bytes.now ≤ 67108864 }
     ensures { result ≡ read_as (certify_job coin) (certify_input coin bytes.now) }
@@ -83,7 +93,7 @@ fn certify_job(coin: u8, bytes: &[u8]) -> Result<Job, Stop>
     }
 }
 
-fn check_job(verdict: Result<Checked, Finding>) -> Result<Job, Stop>
+fn check_job<'a>(verdict: Result<Checked, Finding>) -> Result<Job<'a>, Stop>
     ensures { result ≡ check_read verdict }
 {
     match verdict {
@@ -101,6 +111,33 @@ fn check_job(verdict: Result<Checked, Finding>) -> Result<Job, Stop>
             rule: rule_of(rule),
             said,
             due,
+        }),
+    }
+}
+
+fn replay_job(bytes: &[u8]) -> Result<Job<'_>, Stop>
+    requires limit { length bytes.now ≤ 67108864 }
+    ensures { result ≡ log_read (replay_input bytes.now) }
+{
+    match read_replay_input(bytes) {
+        Ok((table, log)) => lawful_job(table, log),
+        Err(refused) => Err(Stop::Refused { line: refused.line }),
+    }
+}
+
+/// A log is stopped at the first game that breaks a law.
+fn lawful_job<'a>(table: PayTable, log: Log<'a>) -> Result<Job<'a>, Stop>
+    requires table { IsTable table }
+    requires log { IsLog table.deck log }
+    ensures { result ≡ replay_read table log.entry }
+{
+    match first_break(&table, &log) {
+        None => Ok(Job::Replay(ReplayJob::new(table, log))),
+        Some(broken) => Err(Stop::Finding {
+            at: broken.game,
+            rule: law_of(broken.rule),
+            said: u128::from(broken.said),
+            due: u128::from(broken.due),
         }),
     }
 }

@@ -4,6 +4,8 @@ ghost use Rattle.vp_run.specs.Certify.{CertifyInputsAreRead};
 ghost use Rattle.vp_run.specs.Check.{CertificatesAreJudged, CheckInputsAreEither, CheckInputsAreRefused};
 ghost use Rattle.vp_run.specs.Commands.{CommandsAreSpelled};
 ghost use Rattle.vp_run.specs.Deal.{DealInputsAreRead};
+ghost use Rattle.vp_run.specs.Replay.{ReplayInputsAreRead};
+ghost use Rattle.vp_run.specs.Replayed.{ReplaysTellCosts};
 ghost use Rattle.vp_run.specs.EveryDeal.{CertificatesAreChecked, CertificatesTellEveryDeal, ChecksTellEveryDeal, ChecksTellWalkedDeals, DealsPrintBestHolds};
 
 /// Words are a command exactly where they spell it: its name, and its numbers in decimal digits, each in its range.
@@ -34,6 +36,21 @@ pub fn check_inputs_are_read()
     ensures judged { CertificatesAreJudged }
     ensures refused { CheckInputsAreRefused }
     ensures either { CheckInputsAreEither }
+{}
+
+/// What `replay` takes for its input is what the lines of the input spell: a valid pay table and a log with cards of its
+/// deck, and nothing else. Every other input is refused, exactly at its refused line.
+pub fn replay_inputs_are_read()
+    ensures { ReplayInputsAreRead }
+{}
+
+/// The answer of `replay` to each pay table and log that it takes. Where all games keep the laws of a game, each starting
+/// from the credits of the one before it, it is the lines of what their holds cost and of the numbers of the log: each
+/// cost is what the best of the 32 holds of the deal is worth more than the held cards, as a mean payment over the common
+/// denominator. Else it names the first game that breaks a law, and the first law that this game breaks, with the number
+/// that stands there and the number due.
+pub fn replays_tell_costs()
+    ensures { ReplaysTellCosts }
 {}
 
 /// The answer of `deal` to each pay table and deal that it takes are four lines that print a best hold: its mask is one of

@@ -9,7 +9,7 @@ use vp_pay::samples::JACKS;
 
 #[test]
 fn words_that_are_no_command_read_nothing(rt: HostRuntime) {
-    let cases: [&[&str]; 18] = [
+    let cases: [&[&str]; 19] = [
         &[],
         &["certify", "0"],
         &["certify", "6"],
@@ -27,6 +27,7 @@ fn words_that_are_no_command_read_nothing(rt: HostRuntime) {
         &["check", "1", "200001"],
         &["check", "200001", "1"],
         &["check", "1", "1", "1"],
+        &["replay", "1"],
         &["tables", "1"],
     ];
     for words in cases {
