@@ -7,12 +7,13 @@ use Rattle.vp_text.specs.Lines.{Word}
 use Rattle.vp_text.specs.Numbers.{number_within}
 use Rattle.vp_text.specs.Pieces.{◌>>=◌}
 use Rattle.vp_text.proofs.Numbers.{number_within_exact}
+use Rattle.vp_pay.specs.Names.{is_name}
 use Rattle.vp_text.proofs.Pieces.{bound, chosen}
-use Rattle.vp_run.specs.Commands.{AreInRange, CommandsAreSpelled, InRange, alone, bet, check, coin_of, command_of, command_words, lines_of, task_of, task_words}
+use Rattle.vp_run.specs.Commands.{AreInRange, CommandsAreSpelled, InRange, alone, bet, check, coin_of, command_of, command_words, lines_of, meter, meter_of, task_of, task_words}
 use Rattle.vp_run.specs.declared.command.Command.{Command}
 use Rattle.vp_run.specs.declared.command.Command.TheVariants.{Over, Tables}
 use Rattle.vp_run.specs.declared.command.Task.{Task}
-use Rattle.vp_run.specs.declared.command.Task.TheVariants.{Certify, Check, Deal}
+use Rattle.vp_run.specs.declared.command.Task.TheVariants.{Certify, Check, Deal, Meter}
 
 -- the words spell the task, and its numbers are in range
 abbrev Spells : List Word → Task → Type 0
@@ -49,6 +50,38 @@ a_check (first ∷ second ∷ []) read e =
     subst (λ (t : Task). Spells (codes "check" ∷ first ∷ second ∷ []) t) same
     (ap (λ (w : Word). codes "check" ∷ w ∷ second ∷ []) (sym f.1) ∙ ap (λ (w : Word). codes "check" ∷ decimal from.value ∷ w ∷ []) (sym n.1), record { some = f.0.0; most_from = f.0.1; most_count = n.0.1 })
 
+-- a name is the word itself
+named : (word : Word) (name : Word) → (if is_name word then Some word else None) ≡ Some name → (is_name word ≡ true) × (word ≡ name)
+named word name e = by_test (is_name word) e
+  where
+    by_test : (b : Bool) → (if b then Some word else None) ≡ Some name → (b ≡ true) × (word ≡ name)
+    by_test true e = (refl, cc)
+    by_test false e = absurd cc
+
+-- the same words of a meter
+meter_same : (a b c d e f g h : Word) → a ≡ b → c ≡ d → e ≡ f → g ≡ h → codes "meter" ∷ a ∷ c ∷ e ∷ g ∷ [] ≡ codes "meter" ∷ b ∷ d ∷ f ∷ h ∷ []
+meter_same a b c d e f g h p q r s = rw (p, q, r, s) refl
+
+a_meter : (numbers : List Word) (read : Task) → meter numbers ≡ Some read → Spells (codes "meter" ∷ numbers) read
+unfolding coin_of
+a_meter [] read e = absurd cc
+a_meter (a ∷ []) read e = absurd cc
+a_meter (a ∷ b ∷ []) read e = absurd cc
+a_meter (a ∷ b ∷ c ∷ []) read e = absurd cc
+a_meter (a ∷ b ∷ c ∷ d ∷ x ∷ more) read e = absurd cc
+a_meter (stake ∷ line ∷ least ∷ greatest ∷ []) read e =
+    let coin = bound (number_within 1 5 stake) _ read e in
+    let name = bound (if is_name line then Some line else None) _ read coin.then in
+    let hi = bound (number_within 0 500000 greatest) _ read name.then in
+    let lo = bound (number_within 0 hi.value least) _ read hi.then in
+    let k = digits 1 5 stake coin.value (omega arith) coin.first in
+    let n = named line name.value name.first in
+    let h = digits 0 500000 greatest hi.value (omega arith) hi.first in
+    let l = digits 0 hi.value least lo.value (omega (arith, h.0.1)) lo.first in
+    let same : Meter coin.value name.value lo.value hi.value ≡ read = (let e : Some (Meter coin.value name.value lo.value hi.value) ≡ Some read = lo.then in cc) in
+    subst (λ (t : Task). Spells (codes "meter" ∷ stake ∷ line ∷ least ∷ greatest ∷ []) t) same
+    (meter_same _ _ _ _ _ _ _ _ (sym k.1) n.1 (sym l.1) (sym h.1), record { some = k.0.0; most = k.0.1; name = ap is_name (sym n.1) ∙ n.0; order = l.0.1; most_payment = h.0.1 })
+
 -- a word that is this key, and else the choice behind it
 keyed : (key word : Word) (numbers : List Word) (here other : Option Task) (read : Task) → (if bytes_eq word key then here else other) ≡ Some read
     → (here ≡ Some read → Spells (key ∷ numbers) read) → (other ≡ Some read → Spells (word ∷ numbers) read) → Spells (word ∷ numbers) read
@@ -63,7 +96,8 @@ unfolding task_of
 task_spelled word numbers read e =
     keyed (codes "deal") word numbers (bet Deal numbers) _ read e (a_bet (codes "deal") Deal (λ coin. refl) (λ coin is. is) numbers read) (λ e.
     keyed (codes "certify") word numbers (bet Certify numbers) _ read e (a_bet (codes "certify") Certify (λ coin. refl) (λ coin is. is) numbers read) (λ e.
-    keyed (codes "check") word numbers (check numbers) None read e (a_check numbers read) (λ none. absurd cc)))
+    keyed (codes "check") word numbers (check numbers) _ read e (a_check numbers read) (λ e.
+    keyed (codes "meter") word numbers (meter numbers) None read e (a_meter numbers read) (λ none. absurd cc))))
 
 task_read : (task : Task) → InRange task → command_of (task_words task) ≡ Some (Over task)
 unfolding command_of task_of coin_of
@@ -74,6 +108,15 @@ task_read (Check from count) is =
     let n = (number_within_exact 0 200000 (omega arith)).again count (omega arith, is.most_count) in
     ap (λ o. option_map Over (o >>= λ a. number_within 0 200000 (decimal count) >>= λ b. Some (Check a b))) f
     ∙ ap (λ o. option_map Over (o >>= λ b. Some (Check from b))) n
+task_read (Meter coin line lo hi) is =
+    let k = (number_within_exact 1 5 (omega arith)).again coin (is.some, is.most) in
+    let h = (number_within_exact 0 500000 (omega arith)).again hi (omega arith, is.most_payment) in
+    let l = (number_within_exact 0 hi (omega (arith, is.most_payment))).again lo (omega arith, is.order) in
+    let n : (if is_name line then Some line else None) ≡ Some line = rw is.name refl in
+    ap (λ o. option_map Over (o >>= λ a. (if is_name line then Some line else None) >>= λ b. number_within 0 500000 (decimal hi) >>= λ c. number_within 0 c (decimal lo) >>= λ d. Some (Meter a b d c))) k
+    ∙ ap (λ o. option_map Over (o >>= λ b. number_within 0 500000 (decimal hi) >>= λ c. number_within 0 c (decimal lo) >>= λ d. Some (Meter coin b d c))) n
+    ∙ ap (λ o. option_map Over (o >>= λ c. number_within 0 c (decimal lo) >>= λ d. Some (Meter coin line d c))) h
+    ∙ ap (λ o. option_map Over (o >>= λ d. Some (Meter coin line d hi))) l
 
 -- the words of a command that were read
 abbrev Says : List Word → Command → Type 0

@@ -16,7 +16,9 @@ use Rattle.vp_answer.specs.declared.status.Status.{Status}
 
 task_of-take : (a b c d : Word) (more : List Word) → option_map Over (task_of a (take 5 (b ∷ c ∷ d ∷ more))) ≡ option_map Over (task_of a (b ∷ c ∷ d ∷ more))
 unfolding task_of
-task_of-take a b c d more = refl
+task_of-take a b c d [] = refl
+task_of-take a b c d (e ∷ []) = refl
+task_of-take a b c d (e ∷ f ∷ more) = refl
 
 command_of-take : (words : List Word) → command_of (take 6 words) ≡ command_of words
 unfolding command_of

@@ -5,6 +5,7 @@ use Rattle.vp_card.specs.Texts.{card_text}
 use Rattle.vp_text.specs.Written.{line_of, spaced, written}
 use Rattle.vp_check.specs.Spelling.{certificate_text}
 use Rattle.vp_check.specs.Truth.{due_certificate}
+use Rattle.vp_meter.specs.Spelling.{head_words, meter_text}
 use Rattle.vp_pay.specs.BuiltIn.{built_in}
 use Rattle.vp_pay.specs.Spelling.{table_text}
 use Rattle.vp_answer.specs.Answers.{answer_read, finding_words}
@@ -16,17 +17,18 @@ use Rattle.vp_run.specs.Commands.{command_of}
 use Rattle.vp_run.specs.declared.command.Command.{Command}
 use Rattle.vp_run.specs.declared.command.Command.TheVariants.{Over, Tables}
 use Rattle.vp_run.specs.declared.job.Job.{Job}
-use Rattle.vp_run.specs.declared.job.Job.TheVariants.{Certify, Checked, Deal}
+use Rattle.vp_run.specs.declared.job.Job.TheVariants.{Certify, Checked, Deal, Meter}
 
 front_some : (front back : List ℕ) → 0 < length front → 0 < length (front ++ back)
 front_some front back some = omega (arith, length-append front back)
 
 -- a line for each job
 job_some : (job : Job) → 0 < length (job_text job)
-unfolding certificate_text table_text checked_lines
+unfolding certificate_text table_text checked_lines meter_text head_words
 job_some (Deal d) = front_some (line_of (codes "deal" ∷ map card_text d.hand)) _ (omega (arith, length-append (spaced (codes "deal" ∷ map card_text d.hand)) (10 ∷ [])))
 job_some (Certify s) = omega arith
 job_some (Checked c) = omega arith
+job_some (Meter r) = omega arith
 
 read_some : (read : Result Job Stop) → 0 < length (answer_read job_text read).text
 unfolding finding_words

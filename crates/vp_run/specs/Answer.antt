@@ -19,12 +19,14 @@ use Rattle.vp_run.specs.Certify.{certify_input}
 use Rattle.vp_run.specs.Check.{checked_lines, rule_of}
 use Rattle.vp_run.specs.Commands.{command_of, reads}
 use Rattle.vp_run.specs.Deal.{deal_input, deal_lines}
+use Rattle.vp_run.specs.Meter.{meter_input, metering_of}
+use Rattle.vp_meter.specs.Spelling.{meter_text}
 use Rattle.vp_run.specs.declared.command.Command.{Command}
 use Rattle.vp_run.specs.declared.command.Command.TheVariants.{Over, Tables}
 use Rattle.vp_run.specs.declared.command.Task.{Task}
-use Rattle.vp_run.specs.declared.command.Task.TheVariants.{Certify, Check, Deal}
+use Rattle.vp_run.specs.declared.command.Task.TheVariants.{Certify, Check, Deal, Meter}
 use Rattle.vp_run.specs.declared.job.Job.{Job}
-use Rattle.vp_run.specs.declared.job.Job.TheVariants.{Certify as CertifyJob, Checked as CheckedJob, Deal as DealJob}
+use Rattle.vp_run.specs.declared.job.Job.TheVariants.{Certify as CertifyJob, Checked as CheckedJob, Deal as DealJob, Meter as MeterJob}
 
 -- ---- what is read, and its text
 
@@ -39,6 +41,9 @@ deal_job coin read = DealJob (record { table = read.0; coin = coin; hand = read.
 abbrev pub certify_job : ℕ → PayTable × Unit {0} → Job
 certify_job coin read = CertifyJob (record { table = read.0; coin = coin })
 
+abbrev pub meter_job : ℕ → List ℕ → ℕ → ℕ → PayTable × Unit {0} → Job
+meter_job coin name lo hi read = MeterJob (record { metering = metering_of coin name read.0; lo = lo; hi = hi })
+
 -- what the check of a certificate gives
 abbrev pub check_read : Result Checked Finding → Result Job Stop
 check_read (Err (RefusedAt line)) = Err (Refusal line)
@@ -50,6 +55,7 @@ abbrev pub job_of : Task → List ℕ → Result Job Stop
 job_of (Deal coin) bytes = read_as (deal_job coin) (deal_input coin bytes)
 job_of (Certify coin) bytes = read_as (certify_job coin) (certify_input coin bytes)
 job_of (Check from count) bytes = check_read (check_result bytes from count)
+job_of (Meter coin name lo hi) bytes = read_as (meter_job coin name lo hi) (meter_input coin name bytes)
 
 -- the text of a job
 abbrev pub job_text : Job → List ℕ
@@ -59,6 +65,8 @@ job_text (DealJob d) = written (deal_lines d)
 job_text (CertifyJob s) = written (certificate_text (due_certificate s.table s.coin))
 -- of `check`: what the certificate says of itself
 job_text (CheckedJob checked) = written (checked_lines checked)
+-- of `meter`: the classes with their segments, and the pieces
+job_text (MeterJob r) = written (meter_text r.metering r.lo r.hi)
 
 -- ---- words that need no input
 

@@ -4,10 +4,11 @@ use Rattle.std.specs.Fmt.{decimal}
 use Rattle.vp_text.specs.Lines.{Word}
 use Rattle.vp_text.specs.Numbers.{number_within}
 use Rattle.vp_text.specs.Pieces.{◌>>=◌}
+use Rattle.vp_pay.specs.Names.{is_name}
 use Rattle.vp_run.specs.declared.command.Command.{Command}
 use Rattle.vp_run.specs.declared.command.Command.TheVariants.{Over, Tables}
 use Rattle.vp_run.specs.declared.command.Task.{Task}
-use Rattle.vp_run.specs.declared.command.Task.TheVariants.{Certify, Check, Deal}
+use Rattle.vp_run.specs.declared.command.Task.TheVariants.{Certify, Check, Deal, Meter}
 
 -- ---- how a command is spelled
 
@@ -16,6 +17,7 @@ abbrev pub task_words : Task → List Word
 task_words (Deal coin) = codes "deal" ∷ decimal coin ∷ []
 task_words (Certify coin) = codes "certify" ∷ decimal coin ∷ []
 task_words (Check from count) = codes "check" ∷ decimal from ∷ decimal count ∷ []
+task_words (Meter coin line lo hi) = codes "meter" ∷ decimal coin ∷ line ∷ decimal lo ∷ decimal hi ∷ []
 
 -- the words of a command
 abbrev pub command_words : Command → List Word
@@ -28,11 +30,20 @@ pub record IsRange (from count : ℕ) : Type 0 where
   pub most_from : from ≤ 200000
   pub most_count : count ≤ 200000
 
+-- a bet is 1 to 5, the line is a name, and the payments go from the least to the greatest, which is at most 500000
+pub record IsMeter (coin : ℕ) (line : Word) (lo hi : ℕ) : Type 0 where
+  pub some : 1 ≤ coin
+  pub most : coin ≤ 5
+  pub name : is_name line ≡ true
+  pub order : lo ≤ hi
+  pub most_payment : hi ≤ 500000
+
 -- the numbers of a task are in range: a bet is 1 to 5
 abbrev pub InRange : Task → Type 0
 InRange (Deal coin) = (1 ≤ coin) × (coin ≤ 5)
 InRange (Certify coin) = (1 ≤ coin) × (coin ≤ 5)
 InRange (Check from count) = IsRange from count
+InRange (Meter coin line lo hi) = IsMeter coin line lo hi
 
 -- the same of a command
 abbrev pub AreInRange : Command → Type 0
@@ -61,13 +72,27 @@ abbrev pub check : List Word → Option Task
 check (first ∷ second ∷ []) = lines_of first second
 check _ = None
 
+-- a bet, the name of a line, and the least and the greatest payment
+abbrev pub meter_of : Word → Word → Word → Word → Option Task
+meter_of bet line least greatest = do
+  coin ← coin_of bet
+  name ← (if is_name line then Some line else None)
+  hi ← number_within 0 500000 greatest
+  lo ← number_within 0 hi least
+  Some (Meter coin name lo hi)
+
+abbrev pub meter : List Word → Option Task
+meter (coin ∷ line ∷ lo ∷ hi ∷ []) = meter_of coin line lo hi
+meter _ = None
+
 -- the task that a word and its numbers are
 unfoldable pub task_of : Word → List Word → Option Task
 task_of word numbers =
     if bytes_eq word (codes "deal") then bet Deal numbers
     else (if bytes_eq word (codes "certify") then bet Certify numbers
     else (if bytes_eq word (codes "check") then check numbers
-    else None))
+    else (if bytes_eq word (codes "meter") then meter numbers
+    else None)))
 
 -- the command of a word alone
 abbrev pub alone : Word → Option Command

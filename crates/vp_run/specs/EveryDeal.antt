@@ -1,5 +1,5 @@
--- What the answers of `deal`, `certify` and `check` tell.
-use Rattle.std.specs.Prelude.{◌≡◌, ℕ, ◌≤◌, List, Some, Ok, length}
+-- What the answers of `deal`, `certify`, `check` and `meter` tell.
+use Rattle.std.specs.Prelude.{◌≡◌, ℕ, ◌≤◌, List, [], Some, Ok, length, map, slice_index_or}
 use Rattle.vp_text.specs.Lines.{Word}
 use Rattle.vp_text.specs.Written.{written}
 use Rattle.vp_pay.specs.declared.table.PayTable.{PayTable}
@@ -13,8 +13,12 @@ use Rattle.vp_run.specs.Certify.{certify_input}
 use Rattle.vp_draws.specs.Draws.{IsPrinted}
 use Rattle.vp_run.specs.Commands.{command_of}
 use Rattle.vp_run.specs.Deal.{Dealt, best_of, deal_input, deal_lines}
+use Rattle.vp_run.specs.Meter.{meter_input, metering_of}
+use Rattle.vp_meter.specs.Laws.{TellsMeter}
+use Rattle.vp_meter.specs.Metered.{IsMetering}
+use Rattle.vp_meter.specs.Spelling.{meter_text}
 use Rattle.vp_run.specs.declared.command.Command.TheVariants.{Over}
-use Rattle.vp_run.specs.declared.command.Task.TheVariants.{Certify, Check, Deal}
+use Rattle.vp_run.specs.declared.command.Task.TheVariants.{Certify, Check, Deal, Meter}
 use Rattle.vp_answer.specs.declared.status.Status.TheVariants.{Done}
 
 -- the answer is the four lines of a hand. The hold that it prints has an expected payment that no other of the 32 holds exceeds, and
@@ -65,3 +69,16 @@ pub record IsCheckedWell (printed : List ℕ) : Type 0 where
 abbrev pub CertificatesAreChecked : Type 0
 CertificatesAreChecked = (words : List Word) (coin : ℕ) (bytes : List ℕ) (table : PayTable)
     → command_of words ≡ Some (Over (Certify coin)) → certify_input coin bytes ≡ Ok (table, tt) → IsCheckedWell (answer words bytes).text
+
+-- the answer is the meter of this bet and of the line with this name, which tells every deal
+pub record PrintsMeter (table : PayTable) (coin : ℕ) (name : List ℕ) (lo hi : ℕ) (due : Answer) : Type 0 where
+  pub status : due.status ≡ Done
+  pub text : due.text ≡ written (meter_text (metering_of coin name table) lo hi)
+  pub metering : IsMetering (metering_of coin name table)
+  pub named : slice_index_or (map (λ line. line.name) table.lines.items) (metering_of coin name table).place [] ≡ name
+  pub tells : TellsMeter (metering_of coin name table) lo hi
+
+-- the answer of `meter` to each pay table that it takes
+abbrev pub MetersAreTold : Type 0
+MetersAreTold = (words : List Word) (coin lo hi : ℕ) (name bytes : List ℕ) (table : PayTable)
+    → command_of words ≡ Some (Over (Meter coin name lo hi)) → meter_input coin name bytes ≡ Ok (table, tt) → PrintsMeter table coin name lo hi (answer words bytes)

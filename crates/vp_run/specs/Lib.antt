@@ -2,6 +2,7 @@ pub mod Commands
 pub mod Deal
 pub mod Certify
 pub mod Check
+pub mod Meter
 pub mod Answer
 pub mod Memory
 pub mod Arguments

@@ -1,5 +1,5 @@
 -- How much memory an answer needs beside its input.
-use Rattle.std.specs.Prelude.{ℕ, List, Option, Some, None}
+use Rattle.std.specs.Prelude.{ℕ, ◌+◌, ◌-◌, ◌*◌, List, Option, Some, None}
 use Rattle.vp_count.specs.Table.{first_word}
 use Rattle.vp_answer.specs.Answers.{words_read}
 use Rattle.vp_run.specs.Answer.{job_of}
@@ -7,13 +7,15 @@ use Rattle.vp_run.specs.Commands.{command_of}
 use Rattle.vp_run.specs.declared.command.Command.{Command}
 use Rattle.vp_run.specs.declared.command.Command.TheVariants.{Over, Tables}
 use Rattle.vp_run.specs.declared.job.Job.{Job}
-use Rattle.vp_run.specs.declared.job.Job.TheVariants.{Certify, Checked, Deal}
+use Rattle.vp_run.specs.declared.job.Job.TheVariants.{Certify, Checked, Deal, Meter}
 
--- `deal` and `certify` need a table of sums for the deck of their pay table; `check` walks the draws in place
+-- `deal` and `certify` need a table of sums for the deck of their pay table; `check` walks the draws in place; `meter` needs two such
+-- tables, and four words for each payment
 abbrev pub job_words : Job → ℕ
 job_words (Deal d) = first_word d.table.deck 6
 job_words (Certify s) = first_word s.table.deck 6
 job_words (Checked c) = 0
+job_words (Meter r) = 2 * first_word r.metering.table.deck 6 + 4 * (r.hi - r.lo + 1)
 
 -- what a command needs; `tables` reads no input
 abbrev pub command_room : Option Command → List ℕ → ℕ

@@ -1,14 +1,15 @@
 //! The commands, as the words of the command line spell them.
 
 ghost use Rattle.std.specs.Prelude.{◌≡◌, ◌≤◌, ℕ, map, option_map, IfSome};
-ghost use Rattle.vp_run.specs.Commands.{AreInRange, InRange, bet, check, coin_of, command_of, lines_of, task_of};
+ghost use Rattle.vp_run.specs.Commands.{AreInRange, InRange, bet, check, coin_of, command_of, lines_of, meter, meter_of, task_of};
 ghost use Rattle.vp_run.specs.declared.command.Task.{Task};
 ghost use Rattle.vp_text.specs.Numbers.{number_within};
 
+use vp_pay::Name;
 use vp_text::number;
 
 /// A command that reads an input, with its numbers.
-#[derive(Clone, Copy, Debug, PartialEq, Eq)]
+#[derive(Debug, PartialEq, Eq, Drop)]
 pub enum Task {
     /// `deal COIN`: the best hold of one deal, for a bet of 1 to 5 coins.
     Deal(u8),
@@ -16,11 +17,22 @@ pub enum Task {
     Certify(u8),
     /// `check FROM COUNT`: what is wrong with a certificate. The values of COUNT class lines from the place FROM on,
     /// counted from 1, are reckoned again by walking all draws.
-    Check { from: u32, count: u32 },
+    Check {
+        from: u32,
+        count: u32,
+    },
+    /// `meter COIN LINE LO HI`: which holds are best from which payment on, where the payment of the line with this name
+    /// goes from LO to HI, for a bet of 1 to 5 coins.
+    Meter {
+        coin: u8,
+        line: Name,
+        lo: u32,
+        hi: u32,
+    },
 }
 
 /// A command.
-#[derive(Clone, Copy, Debug, PartialEq, Eq)]
+#[derive(Debug, PartialEq, Eq, Drop)]
 pub enum Command {
     /// `tables`: the built-in pay tables. It reads no input.
     Tables,
@@ -51,6 +63,7 @@ fn task_of(word: &str, numbers: &[&str]) -> Option<Task>
         "deal" => bet(numbers).map(Task::Deal),
         "certify" => bet(numbers).map(Task::Certify),
         "check" => lines(numbers),
+        "meter" => meter(numbers),
         _ => None,
     }
 }
@@ -95,6 +108,34 @@ fn lines_of(first: &[u8], second: &[u8]) -> Option<Task>
     let from = number_within(1, 200_000, first)?;
     let count = number_within(0, 200_000, second)?;
     Some(Task::Check { from, count })
+}
+
+/// A bet, the name of a line, and the least and the greatest payment.
+fn meter(words: &[&str]) -> Option<Task>
+    ensures is { result ≡ meter (map (λ w. w.now) words.now) }
+    ensures range { IfSome result InRange }
+{
+    match words {
+        [coin, line, lo, hi] => meter_of(
+            coin.as_bytes(),
+            line.as_bytes(),
+            lo.as_bytes(),
+            hi.as_bytes(),
+        ),
+        _ => None,
+    }
+}
+
+/// The meter that four words spell.
+fn meter_of(bet: &[u8], line: &[u8], least: &[u8], greatest: &[u8]) -> Option<Task>
+    ensures is { result ≡ meter_of bet.now line.now least.now greatest.now }
+    ensures range { IfSome result InRange }
+{
+    let coin = coin_of(bet)?;
+    let line = Name::read(line)?;
+    let hi = number_within(0, 500_000, greatest)?;
+    let lo = number_within(0, hi, least)?;
+    Some(Task::Meter { coin, line, lo, hi })
 }
 
 /// The number from `least` to `most` that a word spells in its decimal digits.

@@ -1,18 +1,21 @@
 //! What is left to do once an input is read.
 
 ghost use Rattle.std.specs.Prelude.{◌≡◌, ◌≤◌, length};
-ghost use Rattle.vp_run.specs.Answer.{certify_job, check_read, deal_job, job_of, read_as};
+ghost use Rattle.vp_run.specs.Answer.{certify_job, check_read, deal_job, job_of, meter_job, read_as};
 ghost use Rattle.vp_run.specs.Certify.{certify_input};
 ghost use Rattle.vp_run.specs.Commands.{InRange};
 ghost use Rattle.vp_run.specs.Deal.{deal_input};
+ghost use Rattle.vp_run.specs.Meter.{meter_input};
 
 use crate::certify::{CertifyJob, read_certify_input};
 use crate::check::{put_checked, rule_of};
 use crate::command::Task;
 use crate::deal::{DealJob, read_deal_input};
+use crate::meter::{MeterJob, read_meter_input};
 use vp_answer::{Stop, Work};
 use vp_check::{Checked, Finding, check};
 use vp_io::{Sink, WriteFault};
+use vp_pay::Name;
 use vp_region::Region;
 
 /// What is left to do once an input is read.
@@ -21,6 +24,7 @@ pub enum Job {
     Deal(DealJob),
     Certify(CertifyJob),
     Checked(Checked),
+    Meter(MeterJob),
 }
 
 impl Work for Job {
@@ -36,6 +40,7 @@ impl Work for Job {
             Job::Deal(job) => job.words(),
             Job::Certify(job) => job.words(),
             Job::Checked(_) => 0,
+            Job::Meter(job) => job.words(),
         }
     }
 
@@ -44,6 +49,7 @@ impl Work for Job {
             Job::Deal(job) => job.put(region, sink),
             Job::Certify(job) => job.put(region, sink),
             Job::Checked(checked) => put_checked(*checked, sink),
+            Job::Meter(job) => job.put(region, sink),
         }
     }
 }
@@ -58,6 +64,7 @@ pub(crate) fn job_of(task: Task, bytes: &[u8]) -> Result<Job, Stop>
         Task::Deal(coin) => deal_job(coin, bytes),
         Task::Certify(coin) => certify_job(coin, bytes),
         Task::Check { from, count } => check_job(check(bytes, from, count)),
+        Task::Meter { coin, line, lo, hi } => meter_job(coin, &line, lo, hi, bytes),
     }
 }
 
@@ -79,6 +86,19 @@ fn certify_job(coin: u8, bytes: &[u8]) -> Result<Job, Stop>
 {
     match read_certify_input(bytes, coin) {
         Ok(table) => Ok(Job::Certify(CertifyJob::new(table, coin))),
+        Err(refused) => Err(Stop::Refused { line: refused.line }),
+    }
+}
+
+fn meter_job(coin: u8, name: &Name, lo: u32, hi: u32, bytes: &[u8]) -> Result<Job, Stop>
+    requires some { 1 ≤ coin }
+    requires order { lo ≤ hi }
+    requires most { hi ≤ 500000 }
+    requires limit { length bytes.now ≤ 67108864 }
+    ensures { result ≡ read_as (meter_job coin name.now lo hi) (meter_input coin name.now bytes.now) }
+{
+    match read_meter_input(bytes, coin, name) {
+        Ok((table, line)) => Ok(Job::Meter(MeterJob::new(table, coin, line, lo, hi))),
         Err(refused) => Err(Stop::Refused { line: refused.line }),
     }
 }

@@ -4,7 +4,8 @@ ghost use Rattle.vp_run.specs.Certify.{CertifyInputsAreRead};
 ghost use Rattle.vp_run.specs.Check.{CertificatesAreJudged, CheckInputsAreEither, CheckInputsAreRefused};
 ghost use Rattle.vp_run.specs.Commands.{CommandsAreSpelled};
 ghost use Rattle.vp_run.specs.Deal.{DealInputsAreRead};
-ghost use Rattle.vp_run.specs.EveryDeal.{CertificatesAreChecked, CertificatesTellEveryDeal, ChecksTellEveryDeal, ChecksTellWalkedDeals, DealsPrintBestHolds};
+ghost use Rattle.vp_run.specs.Meter.{MeterInputsAreRead};
+ghost use Rattle.vp_run.specs.EveryDeal.{CertificatesAreChecked, CertificatesTellEveryDeal, ChecksTellEveryDeal, ChecksTellWalkedDeals, DealsPrintBestHolds, MetersAreTold};
 
 /// Words are a command exactly where they spell it: its name, and its numbers in decimal digits, each in its range.
 pub fn commands_are_spelled()
@@ -60,4 +61,18 @@ pub fn certificates_tell_every_deal()
 /// lines are walked.
 pub fn certificates_are_checked()
     ensures { CertificatesAreChecked }
+{}
+
+/// What `meter` takes for its input is what the lines of the input spell: a valid pay table that has the bet and a line of
+/// the name, and nothing else. Every other input is refused, exactly at its refused line.
+pub fn meter_inputs_are_read()
+    ensures { MeterInputsAreRead }
+{}
+
+/// The answer of `meter` to each pay table that it takes tells every deal at every whole payment of its range: each deal
+/// has a hold that is played, one that some turn of the suits carries to the mask in force of its class, and no other of
+/// the 32 holds is worth more; and the last piece at or below the payment tells the sum of the greatest values over all
+/// deals, so the return is exact at every whole payment between printed breakpoints.
+pub fn meters_are_told()
+    ensures { MetersAreTold }
 {}

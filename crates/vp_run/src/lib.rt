@@ -8,6 +8,7 @@ mod command;
 mod deal;
 mod job;
 mod laws;
+mod meter;
 mod serve;
 mod tables;
 mod top;
@@ -16,7 +17,7 @@ pub use arguments::run;
 pub use laws::{
     certificates_are_checked, certificates_tell_every_deal, certify_inputs_are_read,
     check_inputs_are_read, commands_are_spelled, deal_inputs_are_read, deals_print_best_holds,
-    usage_is_for_no_command,
+    meter_inputs_are_read, meters_are_told, usage_is_for_no_command,
 };
 pub use serve::{region_words, served};
 pub use top::{vpoker, vpoker_in_blocks};

@@ -4,5 +4,6 @@ mod certify;
 mod check;
 mod deal;
 mod faults;
+mod meter;
 mod tables;
 mod words;

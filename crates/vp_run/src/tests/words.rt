@@ -9,7 +9,7 @@ use vp_pay::samples::JACKS;
 
 #[test]
 fn words_that_are_no_command_read_nothing(rt: HostRuntime) {
-    let cases: [&[&str]; 18] = [
+    let cases: [&[&str]; 24] = [
         &[],
         &["certify", "0"],
         &["certify", "6"],
@@ -27,6 +27,12 @@ fn words_that_are_no_command_read_nothing(rt: HostRuntime) {
         &["check", "1", "200001"],
         &["check", "200001", "1"],
         &["check", "1", "1", "1"],
+        &["meter", "0", "royal", "0", "1"],
+        &["meter", "1", "Royal", "0", "1"],
+        &["meter", "1", "royal", "5", "4"],
+        &["meter", "1", "royal", "0", "500001"],
+        &["meter", "1", "royal", "0"],
+        &["meter", "1", "royal", "0", "1", "1"],
         &["tables", "1"],
     ];
     for words in cases {
