@@ -81,6 +81,7 @@ a_meter (stake ∷ line ∷ least ∷ greatest ∷ []) read e =
     let same : Meter coin.value name.value lo.value hi.value ≡ read = (let e : Some (Meter coin.value name.value lo.value hi.value) ≡ Some read = lo.then in cc) in
     subst (λ (t : Task). Spells (codes "meter" ∷ stake ∷ line ∷ least ∷ greatest ∷ []) t) same
     (meter_same _ _ _ _ _ _ _ _ (sym k.1) n.1 (sym l.1) (sym h.1), record { some = k.0.0; most = k.0.1; name = ap is_name (sym n.1) ∙ n.0; order = l.0.1; most_payment = h.0.1 })
+
 a_multi : (numbers : List Word) (read : Task) → multi numbers ≡ Some read → Spells (codes "multi" ∷ numbers) read
 a_multi [] read e = absurd cc
 a_multi (first ∷ []) read e = absurd cc

@@ -51,8 +51,10 @@ certify_job coin read = CertifyJob (record { table = read.0; coin = coin })
 
 abbrev pub meter_job : ℕ → List ℕ → ℕ → ℕ → PayTable × Unit {0} → Job
 meter_job coin name lo hi read = MeterJob (record { metering = metering_of coin name read.0; lo = lo; hi = hi })
+
 abbrev pub audit_job : ℕ → PayTable × RuleList → Job
 audit_job coin read = AuditJob (record { table = read.0; coin = coin; list = read.1 })
+
 abbrev pub multi_job : ℕ → ℕ → PayTable × Unit {0} → Job
 multi_job coin hands read = MultiJob (record { table = read.0; coin = coin; hands = hands })
 

@@ -40,6 +40,7 @@ pub record IsMeter (coin : ℕ) (line : Word) (lo hi : ℕ) : Type 0 where
   pub name : is_name line ≡ true
   pub order : lo ≤ hi
   pub most_payment : hi ≤ 500000
+
 -- a bet is 1 to 5, and 1 to 100 hands are drawn
 pub record AreHands (coin hands : ℕ) : Type 0 where
   pub some_coin : 1 ≤ coin

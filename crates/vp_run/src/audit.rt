@@ -109,10 +109,7 @@ fn put_sums<K: Sink>(audited: &Audited, under: u64, sink: &mut K) -> Result<(), 
         Word::Text(b"optimum"),
         Word::Fraction(audited.optimum, under),
     ];
-    let least = [
-        Word::Text(b"least"),
-        Word::Fraction(audited.least, under),
-    ];
+    let least = [Word::Text(b"least"), Word::Fraction(audited.least, under)];
     let greatest = [
         Word::Text(b"greatest"),
         Word::Fraction(audited.greatest, under),

@@ -35,7 +35,10 @@ pub enum Task {
     },
     /// `multi COIN HANDS`: the moments of the total payment of 1 to 100 hands that are drawn from one deal, for a bet of 1
     /// to 5 coins.
-    Multi { coin: u8, hands: u8 },
+    Multi {
+        coin: u8,
+        hands: u8,
+    },
 }
 
 /// A command.

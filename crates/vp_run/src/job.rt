@@ -17,14 +17,14 @@ use crate::certify::{CertifyJob, read_certify_input};
 use crate::check::{put_checked, rule_of};
 use crate::command::Task;
 use crate::deal::{DealJob, read_deal_input};
-use crate::replay::{ReplayJob, first_break, read_replay_input, rule_of as law_of};
+use crate::meter::{MeterJob, read_meter_input};
 use crate::multi::MultiJob;
+use crate::replay::{ReplayJob, first_break, read_replay_input, rule_of as law_of};
 use vp_answer::{Stop, Work};
 use vp_check::{Checked, Finding, check};
 use vp_io::{Sink, WriteFault};
 use vp_loggram::Log;
-use vp_pay::{PayTable, Name};
-use crate::meter::{MeterJob, read_meter_input};
+use vp_pay::{Name, PayTable};
 use vp_region::Region;
 
 /// What is left to do once an input is read.
@@ -111,13 +111,7 @@ fn certify_job(coin: u8, bytes: &[u8]) -> Result<Job<'_>, Stop>
     }
 }
 
-fn meter_job<'a>(
-    coin: u8,
-    name: &Name,
-    lo: u32,
-    hi: u32,
-    bytes: &'a [u8],
-) -> Result<Job<'a>, Stop>
+fn meter_job<'a>(coin: u8, name: &Name, lo: u32, hi: u32, bytes: &'a [u8]) -> Result<Job<'a>, Stop>
     requires some { 1 ≤ coin }
     requires order { lo ≤ hi }
     requires most { hi ≤ 500000 }

@@ -112,11 +112,7 @@ fn lists_that_are_refused(rt: HostRuntime) -> Result<(), Fail> {
             b"list\nexcept 2c 2h 3c 3d Jo 16\nexcept 2c 2h 3c 3d Jo 16\nend\n",
             b"refused 9\n",
         ),
-        (
-            "1",
-            b"list\nrule hold 0 left any 5\nend\n",
-            b"refused 8\n",
-        ),
+        ("1", b"list\nrule hold 0 left any 5\nend\n", b"refused 8\n"),
         ("1", b"list\nend\nend\n", b"refused 9\n"),
         ("2", b"list\nend\n", b"refused 6\n"),
     ];
