@@ -17,10 +17,11 @@ use deals::hand_of;
 use std::marker::Brand;
 use std::sync::ledger::{Blank, Ledger};
 use std::test::Fail;
-use tables::{DEUCES, JACKS, KINGS, TWO_JOKERS, ZERO, table_of};
+use tables::table_of;
 use vp_card::Hand;
 use vp_count::{Reads, SumTable, all_totals, held_total, table_words};
 use vp_pay::PayTable;
+use vp_pay::samples::{DEUCES, JACKS, KINGS_BY_COINS, TWO_JOKERS, ZERO};
 use vp_wild::Steps;
 
 /// The best hold of the hand, and the value of the hold `mask`, alone and among the values of all holds.
@@ -77,7 +78,7 @@ fn worked_deals(rt: HostRuntime) -> Result<(), Fail> {
         ),
         // The discarded joker can't come back.
         (
-            KINGS,
+            KINGS_BY_COINS,
             5,
             b"deal Jo Ts Js Qs Ks",
             (31, 5 * 856152000, 1),

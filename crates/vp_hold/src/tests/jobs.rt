@@ -5,11 +5,12 @@ ghost use Rattle.vp_pay.specs.Bets.{IsBet};
 ghost use Rattle.vp_count.specs.Table.{first_word};
 
 use super::deals::NATURAL;
-use super::tables::{JACKS, table_of};
+use super::tables::table_of;
 use crate::Game;
 use std::test::*;
 use vp_card::Hand;
 use vp_count::table_words;
+use vp_pay::samples::JACKS;
 use vp_pay::{PayTable, read_deal};
 use vp_text::Lines;
 

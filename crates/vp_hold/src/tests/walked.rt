@@ -6,7 +6,7 @@ ghost use Rattle.vp_pay.specs.Bets.{IsBet};
 ghost use Rattle.vp_count.specs.Table.{first_word};
 
 use super::deals::{NATURAL, ONE_JOKER, TWO_JOKERS, hand_of};
-use super::tables::{DEUCES, JACKS, JOKER_QUADS, KINGS, table_of};
+use super::tables::table_of;
 use crate::Game;
 use crate::payments::payment_sums;
 use std::marker::Brand;
@@ -16,6 +16,7 @@ use vp_card::Hand;
 use vp_count::{Reads, SumTable, held_total, table_words};
 use vp_draws::{plain_total, value_of};
 use vp_pay::PayTable;
+use vp_pay::samples::{DEUCES, JACKS, JOKER_QUADS, KINGS_BY_COINS};
 use vp_wild::Steps;
 
 /// Whether the sums tell the totals, and the game the values, that the walk tells, for each of the 32 holds.
@@ -70,7 +71,7 @@ fn holds_are_walked(rt: HostRuntime) -> Result<(), Fail> {
     for (text, coin, deals) in [
         (JACKS, 1, &NATURAL),
         (DEUCES, 1, &NATURAL),
-        (KINGS, 3, &ONE_JOKER),
+        (KINGS_BY_COINS, 3, &ONE_JOKER),
         (JOKER_QUADS, 2, &TWO_JOKERS),
     ] {
         let table = table_of(text, coin).ok_or("no such table")?;
