@@ -1,12 +1,23 @@
 //! The lines of strategy cards, written as they were read.
 
-use crate::{List, rules_are_of_version_2};
+ghost use Rattle.std.specs.Prelude.{◌<◌, length};
+ghost use Rattle.vp_rule.specs.Valid.{IsList};
+
+use crate::List;
 use arrayvec::ArrayVec;
 use std::test::*;
-use vp_io::{MemSink, WriteFault};
+use vp_io::{MemSink, Sink, WriteFault};
 use vp_pay::PayTable;
 use vp_pay::samples::JACKS;
 use vp_text::Lines;
+
+/// Writes the first rule of a list.
+fn write_first<K: Sink>(list: &List, table: &PayTable, sink: &mut K) -> Result<(), WriteFault>
+    requires list { IsList table.now list.now }
+    requires some { 0 < length list.now.rules }
+{
+    list.rules()[0].write(table, sink)
+}
 
 #[test]
 fn usual_lines(rt: HostRuntime) -> Result<(), Fail> {
@@ -30,15 +41,13 @@ fn usual_lines(rt: HostRuntime) -> Result<(), Fail> {
         text.try_extend_from_slice(line)?;
         text.try_extend_from_slice(b"end\n")?;
         let list = List::read(&mut Lines::new(&text), &table).map_err(|_| "a list")?;
-        let rules = list.rules();
-        assert_eq!(rt; rules.len(), 1);
-        rules_are_of_version_2();
+        assert_eq!(rt; list.rules().len(), 1);
         let mut room = [0; 256];
         let mut sink = MemSink::new(&mut room, 100, &[]);
-        assert_eq!(rt; rules[0].write(&table, &mut sink), Ok(()));
+        assert_eq!(rt; write_first(&list, &table, &mut sink), Ok(()));
         assert_eq!(rt; sink.taken(), line);
         let mut sink = MemSink::new(&mut room, 7, &[2]);
-        assert_eq!(rt; rules[0].write(&table, &mut sink), Err(WriteFault));
+        assert_eq!(rt; write_first(&list, &table, &mut sink), Err(WriteFault));
         assert_eq!(rt; sink.taken(), &line[..7]);
     }
     Ok(())
