@@ -82,12 +82,12 @@ least_none : (f g : ℕ → ℕ) → least f [] ≡ least g []
 unfolding least
 least_none f g = refl
 
-record Reached (f : ℕ → ℕ) (xs : List ℕ) : Type 0 where
-  at : ℕ
-  member : OneOf xs at
-  same : least f xs ≡ f at
+pub record Reached (f : ℕ → ℕ) (xs : List ℕ) : Type 0 where
+  pub at : ℕ
+  pub member : OneOf xs at
+  pub same : least f xs ≡ f at
 
-least_reached : (f : ℕ → ℕ) (x : ℕ) (xs : List ℕ) → Reached f (x ∷ xs)
+pub least_reached : (f : ℕ → ℕ) (x : ℕ) (xs : List ℕ) → Reached f (x ∷ xs)
 unfolding least
 least_reached f x [] = record { at = x; member = inl refl; same = refl }
 least_reached f x (y ∷ xs) =
@@ -105,12 +105,12 @@ record Carries (p q : ℕ → Bool) (f g : ℕ → ℕ) : Type 0 where
   passes : (m : ℕ) → m < 32 → p (to m) ≡ q m
   worth : (m : ℕ) → m < 32 → f (to m) ≡ g m
 
-record Reached_by (q : ℕ → Bool) (xs : List ℕ) : Type 0 where
-  at : ℕ
-  member : OneOf xs at
-  hit : q at ≡ true
+pub record Reached_by (q : ℕ → Bool) (xs : List ℕ) : Type 0 where
+  pub at : ℕ
+  pub member : OneOf xs at
+  pub hit : q at ≡ true
 
-some_mask : (q : ℕ → Bool) (xs : List ℕ) → list_any q xs ≡ true → Reached_by q xs
+pub some_mask : (q : ℕ → Bool) (xs : List ℕ) → list_any q xs ≡ true → Reached_by q xs
 some_mask q [] is = absurd cc
 some_mask q (x ∷ xs) is = elim (cases_Bool (q x)) [
   | inl here ↦ record { at = x; member = inl refl; hit = here }

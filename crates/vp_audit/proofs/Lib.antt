@@ -3,6 +3,7 @@ pub mod Charges
 pub mod Decisions
 pub mod Extremes
 pub mod KeptValues
+pub mod LeastAllowed
 pub mod Lookups
 pub mod SoFar
 pub mod Start

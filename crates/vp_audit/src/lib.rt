@@ -9,5 +9,5 @@ mod sums;
 mod walk;
 
 pub use audited::{Audited, Tally};
-pub use laws::rules_are_priced_by_classes;
+pub use laws::{lists_are_charged_the_least_value, rules_are_priced_by_classes};
 pub use walk::audit;
