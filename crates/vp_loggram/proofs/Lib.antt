@@ -1,0 +1,4 @@
+pub mod Event_lines
+pub mod Few_events
+pub mod Games_grammar
+pub mod Logs_grammar

@@ -1,0 +1,4 @@
+pub mod Logs
+pub mod Reading
+pub mod Sections
+pub mod Spelling

@@ -1,0 +1,15 @@
+//! Logs of games: their grammar, their games read one by one from the text, and how a game is written.
+#![tactic(auto)]
+
+mod event;
+mod events;
+mod log;
+mod words;
+mod writing;
+
+pub use event::Event;
+pub use events::Events;
+pub use log::Log;
+
+#[cfg(test)]
+mod tests;

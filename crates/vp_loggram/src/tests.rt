@@ -1,0 +1,3 @@
+//! Logs that are read, refused and written again.
+
+mod logs;

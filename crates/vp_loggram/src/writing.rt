@@ -1,0 +1,85 @@
+//! Games, written line by line.
+
+ghost use Rattle.std.specs.Prelude.{◌≡◌, ◌+◌, ◌*◌, ◌<◌, ◌≤◌, [], ◌∷◌, ◌++◌, length, map, OnOk, OnErr};
+ghost use Rattle.std.specs.Fmt.{decimal};
+ghost use Rattle.vp_card.specs.Texts.{card_text};
+ghost use Rattle.vp_text.specs.Written.{line_of, with_word, with_words};
+ghost use Rattle.vp_loggram.specs.Spelling.{event_words, key_cards, key_number};
+
+use crate::Event;
+use std::alloc::AllocError;
+use vp_card::Card;
+use vp_text::Out;
+
+#[tactic(auto, using(vp_text::proofs::Room::length_with_word))]
+fn add_card(out: &mut Out, card: Card)
+    requires { length out.old + 3 < 512 }
+    ensures word { out.new ≡ with_word out.old (card_text card) }
+    ensures room { length out.new ≤ length out.old + 3 }
+{
+    out.word(&card.text());
+}
+
+#[tactic(auto, using(vp_text::proofs::WithWords::words_next))]
+fn add_cards(out: &mut Out, cards: &[Card])
+    requires { length out.old + 3 * length cards.now < 512 }
+    ensures words { out.new ≡ with_words out.old (map card_text cards.now) }
+    ensures room { length out.new ≤ length out.old + 3 * length cards.now }
+{
+    for card in cards {
+        add_card(out, *card);
+    }
+}
+
+#[tactic(auto, using(vp_text::proofs::WithWords::with_words_append, vp_text::proofs::Room::length_with_word))]
+fn add_key_cards(out: &mut Out, key: &[u8], cards: &[Card])
+    requires few { length cards.now ≤ 5 }
+    requires key { length key.now ≤ 8 }
+    requires room { length out.old + 30 < 512 }
+    ensures words { out.new ≡ with_words out.old (key_cards key.now cards.now) }
+    ensures room { length out.new ≤ length out.old + 24 }
+{
+    out.word(key);
+    add_cards(out, cards);
+}
+
+#[tactic(auto, using(vp_text::proofs::Room::length_with_word, vp_text::proofs::Room::length_decimal))]
+fn add_key_number(out: &mut Out, key: &[u8], number: u64)
+    requires key { length key.now ≤ 8 }
+    requires room { length out.old + 60 < 512 }
+    ensures words { out.new ≡ with_words out.old (key_number key.now number) }
+    ensures room { length out.new ≤ length out.old + 49 }
+{
+    out.word(key);
+    out.number(number as u128);
+}
+
+/// The words of a game, in an empty line.
+#[tactic(auto, using(vp_text::proofs::WithWords::with_words_append), unfolding(crate::specs::Spelling::event_words))]
+fn add_event(out: &mut Out, event: &Event)
+    requires { out.old ≡ [] }
+    ensures { out.new ≡ with_words [] (event_words event.now) }
+{
+    add_key_number(out, b"game", event.bet);
+    add_key_cards(out, b"deal", &event.deal);
+    add_key_cards(out, b"hold", &event.hold);
+    add_key_cards(out, b"draw", &event.draw);
+    add_key_number(out, b"pay", event.pay);
+    add_key_number(out, b"credits", event.credits);
+}
+
+impl Event {
+    /// Appends the line of the game, with its line feed, as a log has it. Where memory is wanted and there is none, the
+    /// text stays as it was.
+    #[tactic(auto, using(crate::proofs::Event_lines::event_line))]
+    pub fn append(&self, text: &mut Vec<u8>) -> Result<(), AllocError>
+        // The line of the game stands behind the text.
+        ensures line { OnOk result (text.new.items ≡ text.old.items ++ line_of (event_words self.now)) }
+        // Where there is no memory the text is as it was.
+        ensures kept { OnErr result (text.new.items ≡ text.old.items) }
+    {
+        let mut out = Out::new();
+        add_event(&mut out, self);
+        text.extend_from_slice(out.line())
+    }
+}
