@@ -1,0 +1,3 @@
+pub mod Counts
+pub mod Drawing
+pub mod Lines
