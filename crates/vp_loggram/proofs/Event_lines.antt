@@ -1,5 +1,5 @@
 -- The words of a game that were put into a line are the line that a log has.
-use Rattle.std.proofs.Common.{◌≡◌, ◌++◌, ◌∷◌, [], List, ℕ, arith}
+use Rattle.std.proofs.Common.{◌≡◌, ◌++◌, ◌∷◌, [], List, arith}
 use Rattle.std.specs.Prelude.{codes}
 use Rattle.std.specs.Fmt.{decimal}
 use Rattle.vp_text.specs.Lines.{Word}
@@ -8,12 +8,12 @@ use Rattle.vp_text.proofs.WithWords.{line_bytes}
 use Rattle.vp_loggram.specs.Spelling.{event_words, key_cards, key_number}
 use Rattle.vp_loggram.specs.declared.event.Event.{Event}
 
--- the words behind the first
-abbrev event_rest : Event → List Word
-event_rest e =
+-- the words of a game behind the first
+abbrev pub words_behind : Event → List Word
+words_behind e =
     decimal e.bet ∷ (key_cards (codes "deal") e.deal ++ (key_cards (codes "hold") e.hold.items ++ (key_cards (codes "draw") e.draw.items
     ++ (key_number (codes "pay") e.pay ++ key_number (codes "credits") e.credits))))
 
 pub event_line : (e : Event) → with_words [] (event_words e) ++ 10 ∷ [] ≡ line_of (event_words e)
 unfolding event_words
-event_line e = line_bytes (codes "game") (event_rest e) (omega arith)
+event_line e = line_bytes (codes "game") (words_behind e) (omega arith)

@@ -1,6 +1,6 @@
 -- Games: each is read from its words, and from no others.
-use Rattle.std.proofs.Common.{◌≡◌, ℕ, ◌<◌, ◌≤◌, ◌^◌, Bool, true, ◌&&◌, nat_lt, List, [], ◌∷◌, ◌++◌, map, length, refl, sym, ap, ◌∙◌, arith, Some, None, append_assoc}
-use Rattle.std.specs.Prelude.{Option, codes}
+use Rattle.std.proofs.Common.{◌≡◌, ℕ, ◌≤◌, true, ◌&&◌, nat_lt, List, [], ◌∷◌, ◌++◌, map, length, refl, ap, ◌∙◌, arith, Some, None, append_assoc}
+use Rattle.std.specs.Prelude.{codes}
 use Rattle.std.specs.Fmt.{decimal}
 use Rattle.std.specs.List.{AllByRecursion}
 use Rattle.std.proofs.lemmas.Bool.{ltb-true}
@@ -79,7 +79,7 @@ event_taken n words event read =
     in let P : Event → Type 0 = λ e. IsEvent n e × (event_words e ≡ words)
     in let spelled : event_words e ≡ words =
     joined words _ _ _ _ _ _ _ _ _ _ (codes "game") (decimal bet.value.0) (codes "deal") (map card_text deal.value.0) (codes "hold") (map card_text hold.value.0) (map card_text draw.value.0) (codes "draw") (codes "pay") (decimal pay.value.0) (codes "credits") (decimal credits.value.0)
-      t1.front t2.front t3.front t4.front t5.front t6.front t7.front t8.front t9.front t10.front end.0
+    t1.front t2.front t3.front t4.front t5.front t6.front t7.front t8.front t9.front t10.front end.0
     in let then : of_deck n e ≡ Some event = ap (of_deck n) end.1 ∙ made.then
     in chosen P (is_of_deck n e) (Some e) None event then
     (λ is s. so P e event s (record { bet = t2.valid; pay = t8.valid; credits = t10.valid; deal = t4.valid.count; hold = t6.valid.count; draw = t7.valid.count; cards = is }, spelled))

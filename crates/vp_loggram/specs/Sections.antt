@@ -1,6 +1,6 @@
 -- How a log is read.
-use Rattle.std.specs.Prelude.{ℕ, List, Result, Ok, codes}
-use Rattle.vp_text.specs.Lines.{WordLine, Feed}
+use Rattle.std.specs.Prelude.{ℕ, List, Ok, codes}
+use Rattle.vp_text.specs.Lines.{WordLine}
 use Rattle.vp_text.specs.Numbers.{number_within}
 use Rattle.vp_text.specs.Pieces.{keyed}
 use Rattle.vp_text.specs.Reading.{◌>>=◌, one_line, both, closed, mapped}

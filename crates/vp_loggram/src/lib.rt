@@ -3,12 +3,14 @@
 
 mod event;
 mod events;
+mod laws;
 mod log;
 mod words;
 mod writing;
 
 pub use event::Event;
 pub use events::Events;
+pub use laws::{log_spellings_differ, written_logs_are_read};
 pub use log::Log;
 
 #[cfg(test)]

@@ -77,8 +77,8 @@ fn games_are_written_as_they_were_read(rt: HostRuntime) -> Result<(), Fail> {
     let log = Log::read(&mut Lines::new(SESSION), 54).ok().ok_or("a log")?;
     let mut games = log.events();
     let mut text = Vec::new(rt.alloc());
-    while let Some(game) = games.next() {
-        game.append(&mut text)?;
+    for _ in 0..3 {
+        games.next().ok_or("a game")?.append(&mut text)?;
     }
     assert_eq!(rt; text.as_slice(), GAMES);
     Ok(())

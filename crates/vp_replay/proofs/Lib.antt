@@ -1,0 +1,7 @@
+pub mod Places
+pub mod Masking
+pub mod LawfulCards
+pub mod Costing
+pub mod ColumnLaws
+pub mod Runs
+pub mod SoFar

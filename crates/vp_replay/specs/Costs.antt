@@ -1,0 +1,28 @@
+-- What the hold of a lawful game costs.
+use Rattle.std.specs.Prelude.{◌≡◌, ℕ, ◌+◌, ◌-◌, ◌*◌, ◌<◌, ◌≤◌, List, [], ◌∷◌, if◌then◌else◌}
+use Rattle.vp_card.specs.Cards.{held, in_order}
+use Rattle.vp_pay.specs.declared.table.PayTable.{PayTable}
+use Rattle.vp_draws.specs.Draws.{best, value}
+use Rattle.vp_loggram.specs.declared.event.Event.{Event}
+use Rattle.vp_replay.specs.Rules.{among}
+
+-- the mask that holds those cards of a hand which are among others
+unfoldable pub mask_of : List ℕ → List ℕ → ℕ
+mask_of [] cards = 0
+mask_of (card ∷ hand) cards = (if among card cards then 1 else 0) + 2 * mask_of hand cards
+
+-- the mask of the held cards, over the dealt ones in rising order
+abbrev pub hold_of : Event → ℕ
+hold_of e = mask_of (in_order e.deal) e.hold.items
+
+-- the best value of the deal, less the value of the hold, at the bet
+abbrev pub cost_of : PayTable → Event → ℕ
+cost_of table e = best table e.bet (in_order e.deal) - value table e.bet (in_order e.deal) (hold_of e)
+
+-- what the hold of a game costs, as a mean payment over the common denominator: its mask holds the held cards of the deal, in rising
+-- order; it is worth the best value less the cost; no hold of the deal is worth more than that best value, and some hold has it
+pub record IsCost (table : PayTable) (e : Event) (cost : ℕ) : Type 0 where
+  pub mask : hold_of e < 32
+  pub held : held (hold_of e) (in_order e.deal) ≡ in_order e.hold.items
+  pub worth : value table e.bet (in_order e.deal) (hold_of e) + cost ≡ best table e.bet (in_order e.deal)
+  pub greatest : (other : ℕ) → other < 32 → value table e.bet (in_order e.deal) other ≤ best table e.bet (in_order e.deal)

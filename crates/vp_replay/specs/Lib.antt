@@ -1,0 +1,5 @@
+pub mod Rules
+pub mod LawfulGames
+pub mod Columns
+pub mod Costs
+pub mod Summaries

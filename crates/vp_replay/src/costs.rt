@@ -1,0 +1,53 @@
+//! What the hold of a lawful game costs.
+
+ghost use Rattle.std.specs.Prelude.{◌≡◌, ◌<◌, true, if◌then◌else◌};
+ghost use Rattle.vp_loggram.specs.Logs.{is_of_deck};
+ghost use Rattle.vp_replay.specs.Costs.{IsCost, cost_of, mask_of};
+ghost use Rattle.vp_replay.specs.LawfulGames.{IsLawfulEvent};
+ghost use Rattle.vp_replay.specs.Rules.{among};
+
+use crate::Games;
+use vp_card::{Card, Hand};
+use vp_loggram::Event;
+
+/// Whether the card of this number is held.
+fn is_held(number: u8, hold: &[Card]) -> bool
+    ensures { result ≡ among number hold.now }
+{
+    hold.iter().any(|card| card.number() == number)
+}
+
+/// 1 where the card of this number is held, else 0.
+fn bit(number: u8, hold: &[Card]) -> u8
+    ensures value { result ≡ (if among number hold.now then 1 else 0) }
+    ensures below { result < 2 }
+{
+    u8::from(is_held(number, hold))
+}
+
+/// The mask of the held cards in the hand.
+#[tactic(auto, unfolding(crate::specs::Costs::mask_of))]
+fn mask_of(hand: &Hand, hold: &[Card]) -> u8
+    ensures value { result ≡ mask_of hand.now hold.now }
+    ensures below { result < 32 }
+{
+    let [a, b, c, d, e] = hand.numbers();
+    let last = bit(d, hold) + 2 * bit(e, hold);
+    bit(a, hold) + 2 * (bit(b, hold) + 2 * (bit(c, hold) + 2 * last))
+}
+
+/// What the hold of a lawful game costs at its bet: the best value of its deal, less the value of its hold. It is a mean
+/// payment over the common denominator of the deck.
+#[tactic(auto, using(crate::proofs::LawfulCards::lawful_deal, crate::proofs::LawfulCards::deal_of_deck, crate::proofs::LawfulCards::lawful_holds))]
+pub fn cost(games: &Games, event: &Event) -> u64
+    requires lawful { IsLawfulEvent games.now event.now }
+    requires deck { is_of_deck games.now.deck event.now ≡ true }
+    ensures value { result ≡ cost_of games.now event.now }
+    // No hold of the deal is worth more than the held cards and the cost together.
+    ensures cost { IsCost games.now event.now result }
+{
+    let game = games.game(event.bet);
+    let hand = Hand::of(event.deal).unwrap();
+    let mask = mask_of(&hand, &event.hold);
+    game.best(&hand).value - game.value(&hand, mask)
+}

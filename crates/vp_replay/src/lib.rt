@@ -1,0 +1,21 @@
+//! The laws of the games of a log, the first that is broken, and what the holds of a lawful log cost.
+#![tactic(auto)]
+
+mod breaks;
+mod costs;
+mod games;
+mod laws;
+mod replaying;
+mod rule;
+mod rules;
+mod summary;
+#[cfg(test)]
+mod tests;
+
+pub use breaks::lawful;
+pub use costs::cost;
+pub use games::Games;
+pub use laws::{costs_are_of_the_held_cards, lawful_logs_keep_the_laws};
+pub use replaying::replay;
+pub use rule::{Broken, LogRule};
+pub use summary::{Summary, put_summary};
