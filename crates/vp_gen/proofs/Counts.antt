@@ -1,8 +1,8 @@
 -- How often each card stands among those of a made game.
-use Rattle.std.proofs.Common.{◌≡◌, ℕ, zero, suc, ◌+◌, ◌-◌, ◌*◌, ◌/◌, ◌%◌, ◌<◌, ◌≤◌, Bool, true, false, cond, ◌&&◌, nat_lt, List, [], ◌∷◌, ◌++◌, length, get_or, refl, sym, ap, subst, ◌∙◌, arith, inl, inr}
+use Rattle.std.proofs.Common.{◌≡◌, ℕ, zero, suc, ◌+◌, ◌-◌, ◌/◌, ◌%◌, ◌<◌, ◌≤◌, true, false, cond, List, [], ◌∷◌, ◌++◌, length, get_or, refl, sym, ap, subst, ◌∙◌, arith, inl, inr}
 use Rattle.std.specs.Prelude.{◌==◌, if◌then◌else◌, Option, Some, None, IsSome}
 use Rattle.std.specs.List.{remove}
-use Rattle.std.proofs.lemmas.Bool.{cases_lt, lt-ltb}
+use Rattle.std.proofs.lemmas.Bool.{cases_lt}
 use Rattle.std.proofs.lemmas.List.Edits.{length-remove}
 use Rattle.vp_card.specs.Rising.{times}
 use Rattle.vp_card.specs.Cards.{IsDeck, all_differ, held, in_deck, in_order}
@@ -10,7 +10,6 @@ use Rattle.vp_card.proofs.Differ.{distinct-differ}
 use Rattle.vp_card.proofs.InDeck.{in_deck-in_order, in_deck-put}
 use Rattle.vp_card.proofs.Rising.{distinct_from, length-joined, times-append, times-joined, times-same}
 use Rattle.vp_sets.specs.Sets.{deck}
-use Rattle.vp_sets.specs.Draws.{discarded}
 use Rattle.vp_sets.proofs.Decks.{in_deck-deck, length-deck, times-deck, times-outside}
 use Rattle.vp_sets.proofs.Holds.{length-held}
 use Rattle.vp_pay.specs.declared.table.PayTable.{PayTable}
@@ -158,7 +157,7 @@ pub made_from : (table : PayTable) (coin credits x y mask z w paid : ℕ) (deal 
     → drawn 5 x (deck table.deck) ≡ record { cards = deal; rest = rest; state = y } → masked table coin (in_order deal) y ≡ record { mask = mask; state = z }
     → hold ≡ held mask (in_order deal) → drawn (5 - length hold) z rest ≡ record { cards = draw; rest = left; state = w } → paid ≡ pay table coin (in_order (hold ++ draw))
     → made table coin credits x
-      ≡ record { event = record { bet = coin; deal = deal; hold = record { items = hold }; draw = record { items = draw }; pay = paid; credits = credits - coin + paid }; state = w }
+    ≡ record { event = record { bet = coin; deal = deal; hold = record { items = hold }; draw = record { items = draw }; pay = paid; credits = credits - coin + paid }; state = w }
 unfolding made
 made_from table coin credits x y mask z w paid deal rest hold draw left dealt chosen held_is drew pays = rw (dealt, chosen, ← held_is, drew, pays) refl
 

@@ -2,10 +2,12 @@
 #![tactic(auto)]
 
 mod cards;
+mod laws;
 mod logs;
 mod making;
 mod numbers;
 
+pub use laws::made_logs_are_accepted;
 pub use logs::make_log;
 
 #[cfg(test)]

@@ -1,4 +1,4 @@
-use Rattle.std.proofs.Common.{◌≡◌, ◌*◌, ◌++◌, ◌∙◌, [], ap, refl, List, ℕ, map}
+use Rattle.std.proofs.Common.{◌≡◌, ◌*◌, ◌++◌, ◌∙◌, [], refl, map}
 use Rattle.std.specs.Prelude.{codes}
 use Rattle.vp_text.specs.Written.{line_of, written}
 use Rattle.vp_loggram.specs.Spelling.{event_words, key_number}
@@ -10,8 +10,8 @@ pub returns : goal.returns
 returns g c =
     let start : c.from.result * c.from-2.result ≡ c.args.game.now.coin * c.args.games = rw (c.from.ensures, c.from-2.ensures, c.coin.ensures.coin) refl in
     let first : c.push_start.new.text.items ≡ [] ++ line_of (key_number (codes "log") (c.args.game.now.coin * c.args.games)) =
-      c.in_ok-push_start.ensures ∙ rw (start, c.new-text.ensures.items) refl in
+    c.in_ok-push_start.ensures ∙ rw (start, c.new-text.ensures.items) refl in
     let games = c.args.game.now in
     let second : c.push_games.new.text.items ≡ c.push_start.new.text.items ++ written (map event_words (games_from games.table games.coin (games.coin * c.args.games) c.args.seed c.args.games)) =
-      rw start at c.in_ok-push_games.ensures in
+    rw start at c.in_ok-push_games.ensures in
     whole_log games.table games.coin c.args.seed c.args.games c.push_start.new.text.items c.push_games.new.text.items _ first second c.in_ok-extend_from_slice.ensures.items

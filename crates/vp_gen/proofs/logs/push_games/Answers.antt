@@ -1,5 +1,5 @@
-use Rattle.std.proofs.Common.{◌≡◌, ◌+◌, ◌-◌, ◌*◌, ◌≤◌, arith}
-use Rattle.vp_gen.proofs.Lines.{funds_first, funds_left, last_game, next_game}
+use Rattle.std.proofs.Common.{arith}
+use Rattle.vp_gen.proofs.Lines.{funds_left, last_game, next_game}
 use Rattle.vp_gen.proofs.logs.push_games.Goals as goal
 
 pub games-preserved : goal.games-preserved

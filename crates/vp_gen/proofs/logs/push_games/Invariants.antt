@@ -1,6 +1,5 @@
 use Rattle.std.proofs.Common.{◌≡◌, ◌+◌, ◌*◌, ◌≤◌, ◌++◌, map}
 use Rattle.vp_text.specs.Written.{written}
-use Rattle.vp_sets.specs.Sets.{deck}
 use Rattle.vp_loggram.specs.Spelling.{event_words}
 use Rattle.vp_gen.specs.Generator.{games_from}
 use Rattle.vp_gen.proofs.logs.push_games.Given as goal

@@ -1,11 +1,11 @@
-use Rattle.std.proofs.Common.{◌≡◌, ◌+◌, ◌-◌, ◌≤◌, ◌++◌, ◌∙◌, true, ap, sym, subst, length, List, ℕ, arith, refl}
+use Rattle.std.proofs.Common.{◌≡◌, ◌-◌, ◌++◌, ◌∙◌, ap, sym, subst, length, List, ℕ, arith}
 use Rattle.vp_card.specs.Cards.{held, in_deck, in_order}
 use Rattle.vp_pay.specs.Table.{IsTable}
 use Rattle.vp_wild.specs.Payment.{pay}
 use Rattle.vp_draws.proofs.Payments.{pay_le}
 use Rattle.vp_sets.proofs.Decks.{length-deck}
 use Rattle.vp_gen.specs.Generator.{drawn, masked}
-use Rattle.vp_gen.proofs.Counts.{AreCards, AreDealt, cards_from, deal_differs, dealt_from, few_held, final_differ, hand_is, hand_is_some, hand_of_deck, made_from}
+use Rattle.vp_gen.proofs.Counts.{cards_from, deal_differs, dealt_from, final_differ, hand_is, hand_is_some, hand_of_deck, made_from}
 use Rattle.vp_gen.proofs.making.make_event.Goals as goal
 
 pub copied-rest-requires : goal.copied-rest-requires
@@ -41,7 +41,7 @@ final_hand-requires-clause-differ g c =
     let hold : c.held-hold.result.items ≡ held c.mask_of.result (in_order c.deal-deal.result) = c.held-hold.ensures.cards ∙ ap (held c.mask_of.result) hand in
     let drew = ap (λ (k : ℕ). drawn (5 - k) c.mask_of.new.state c.deal-deal.new.rest.items) (sym c.len.ensures.value) ∙ c.draw-draw.ensures.drawn in
     let cards = cards_from _ c.mask_of.result c.mask_of.new.state _ c.deal-deal.result c.deal-deal.new.rest.items c.held-hold.result.items c.draw-draw.result.items _ deck dealt hold drew in
-    rw (c.deref.ensures, c.deref-2.ensures) (final_differ _ _ _ _ cards)
+    rw (c.deref.ensures.0, c.deref-2.ensures.0) (final_differ _ _ _ _ cards)
 
 pub returns-clause-made : goal.returns-clause-made
 returns-clause-made g c =
@@ -54,10 +54,10 @@ returns-clause-made g c =
     let first = ap (drawn 5 c.args.state.now) (sym whole) ∙ c.deal-deal.ensures in
     let chosen = ap (λ (h : List ℕ). masked c.args.game.now.table c.args.game.now.coin h c.deal-deal.new.state) (sym hand) ∙ c.mask_of.ensures in
     let pays : c.from-pay.result ≡ pay c.args.game.now.table c.args.game.now.coin (in_order (c.held-hold.result.items ++ c.draw-draw.result.items)) =
-      c.from-pay.ensures ∙ rw (c.table-table.ensures.table, c.coin-coin.ensures.coin, c.final_hand.ensures, c.deref.ensures, c.deref-2.ensures) at c.pay-pay.ensures.payment in
+    c.from-pay.ensures ∙ rw (c.table-table.ensures.table, c.coin-coin.ensures.coin, c.final_hand.ensures, c.deref.ensures.0, c.deref-2.ensures.0) at c.pay-pay.ensures.payment in
     let bet : c.from-bet.result ≡ c.args.game.now.coin = c.from-bet.ensures ∙ c.coin-coin.ensures.coin in
     rw bet (made_from c.args.game.now.table c.args.game.now.coin c.args.credits c.args.state.now c.deal-deal.new.state c.mask_of.result c.mask_of.new.state c.draw-draw.new.state c.from-pay.result
-      c.deal-deal.result c.deal-deal.new.rest.items c.held-hold.result.items c.draw-draw.result.items c.draw-draw.new.rest.items first chosen hold drew pays)
+    c.deal-deal.result c.deal-deal.new.rest.items c.held-hold.result.items c.draw-draw.result.items c.draw-draw.new.rest.items first chosen hold drew pays)
 
 pub returns-clause-most : goal.returns-clause-most
 returns-clause-most g c =
