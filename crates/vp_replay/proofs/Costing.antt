@@ -1,10 +1,9 @@
 -- What the cost of a lawful game is.
-use Rattle.std.proofs.Common.{◌≡◌, ℕ, ◌+◌, ◌*◌, ◌^◌, ◌<◌, ◌≤◌, Bool, true, false, List, [], ◌∷◌, length, arith}
+use Rattle.std.proofs.Common.{◌≡◌, ℕ, ◌*◌, ◌^◌, ◌<◌, ◌≤◌, Bool, true, false, List, [], ◌∷◌, length, arith}
 use Rattle.std.specs.Prelude.{if◌then◌else◌}
-use Rattle.vp_card.specs.Cards.{in_order, joined}
+use Rattle.vp_card.specs.Cards.{in_order}
 use Rattle.vp_card.proofs.Rising.{length-joined}
 use Rattle.vp_pay.specs.declared.table.PayTable.{PayTable}
-use Rattle.vp_draws.specs.Draws.{best, value}
 use Rattle.vp_draws.proofs.Chosen.{value_le_best}
 use Rattle.vp_loggram.specs.declared.event.Event.{Event}
 use Rattle.vp_replay.specs.Rules.{among}

@@ -3,7 +3,7 @@ use Rattle.std.proofs.Common.{◌≡◌, ℕ, ◌+◌, ◌-◌, ◌≤◌, Bool,
 use Rattle.std.specs.Prelude.{Option, ◌||◌, ◌&&◌, ◌==◌, if◌then◌else◌}
 use Rattle.std.specs.List.{All}
 use Rattle.std.proofs.lemmas.List.Elements.{All-nil, All-cons, All-head, All-tail}
-use Rattle.std.proofs.lemmas.Bool.{and_parts, cases_Bool, eqb-true, not-false}
+use Rattle.std.proofs.lemmas.Bool.{and_parts, cases_Bool, eq-eqb, eqb-true, not-false}
 use Rattle.std.proofs.lemmas.Bool.Decides.{nat_tests}
 use Rattle.vp_card.specs.Rising.{times}
 use Rattle.vp_card.specs.Cards.{absent, all_differ, in_deck, in_order, held}
@@ -11,11 +11,10 @@ use Rattle.vp_card.proofs.InDeck.{in_deck-in_order}
 use Rattle.vp_card.proofs.Rising.{times-append, times-same}
 use Rattle.vp_loggram.specs.Logs.{is_of_deck}
 use Rattle.vp_loggram.specs.declared.event.Event.{Event}
-use Rattle.vp_replay.specs.declared.rule.Breach.{Breach}
 use Rattle.vp_replay.specs.declared.rule.LogRule.{LogRule}
 use Rattle.vp_replay.specs.declared.rule.LogRule.TheVariants.{Deal, Hold, Count, Draw}
 use Rattle.vp_replay.specs.Rules.{among, broken_if, cards_breach, count_breach, deal_breach, draw_breach, first_of, first_wrong, hold_breach, misplaced, wrong_deal, wrong_draw, wrong_hold}
-use Rattle.vp_replay.specs.Costs.{hold_of, mask_of}
+use Rattle.vp_replay.specs.Costs.{hold_of}
 use Rattle.vp_replay.specs.LawfulGames.{AreLawfulCards}
 use Rattle.vp_replay.proofs.Masking.{right_once, none_among, some_among, among_none, holds}
 
@@ -188,3 +187,35 @@ lawful_holds e l = let n = counted e l in holds e.deal e.hold.items n.once n.wit
 
 pub deal_of_deck : (n : ℕ) (e : Event) → is_of_deck n e ≡ true → in_deck n (in_order e.deal) ≡ true
 deal_of_deck n e is = in_deck-in_order n e.deal (and_parts (in_deck n e.deal) (in_deck n e.hold.items) (and_parts (in_deck n e.deal && in_deck n e.hold.items) (in_deck n e.draw.items) is).0).0
+
+-- ---- lawful cards break no law
+
+pub none_first : {A : Type 0} (o : Option A) (more : List (Option A)) → o ≡ None → first_of more ≡ None → first_of (o ∷ more) ≡ None
+none_first o more is rest = rw is rest
+
+pub kept_if : (b : Bool) (rule : LogRule) (said due : ℕ) → b ≡ false → broken_if b rule said due ≡ None
+kept_if b rule said due is = rw is refl
+
+right_hold : (a b : Bool) → a ≡ true → b ≡ false → (not a || b) ≡ false
+right_hold a b there once = rw (there, once) refl
+
+right_draw : (a b : Bool) → a ≡ false → b ≡ false → (a || b) ≡ false
+right_draw a b fresh once = rw (fresh, once) refl
+
+pub right_count : (a b : ℕ) → a ≡ b → not (a == b) ≡ false
+right_count a b is = ap not (eq-eqb a b is)
+
+pub kept_cards : (e : Event) → AreLawfulCards e → cards_breach e ≡ None
+unfolding cards_breach deal_breach hold_breach count_breach draw_breach
+kept_cards e l =
+    let deal : first_wrong wrong_deal [] e.deal ≡ None = none_wrong wrong_deal (λ x. Unit {0}) [] e.deal (λ front card any once. once) (λ k d inside. tt) (once_from e.deal l.deal) in
+    let hold : first_wrong (wrong_hold e.deal) [] e.hold.items ≡ None =
+    none_wrong (wrong_hold e.deal) (λ x. among x e.deal ≡ true) [] e.hold.items (λ front card there once. right_hold (among card e.deal) (among card front) there once) l.dealt (once_from e.hold.items l.hold) in
+    let draw : first_wrong (wrong_draw e.deal) [] e.draw.items ≡ None =
+    none_wrong (wrong_draw e.deal) (λ x. absent x e.deal ≡ true) [] e.draw.items (λ front card fresh once. right_draw (among card e.deal) (among card front) (absent_among card e.deal fresh) once) l.fresh (once_from e.draw.items l.draw) in
+    let of_draw : draw_breach e ≡ None = ap (misplaced Draw) draw in
+    let of_count : count_breach e ≡ None = kept_if _ Count (length e.draw.items) (5 - length e.hold.items) (right_count (length e.hold.items + length e.draw.items) 5 l.count) in
+    let of_hold : hold_breach e ≡ None = ap (misplaced Hold) hold in
+    let of_deal : deal_breach e ≡ None = ap (misplaced Deal) deal in
+    none_first (deal_breach e) (hold_breach e ∷ count_breach e ∷ draw_breach e ∷ []) of_deal
+    (none_first (hold_breach e) (count_breach e ∷ draw_breach e ∷ []) of_hold (none_first (count_breach e) (draw_breach e ∷ []) of_count (none_first (draw_breach e) [] of_draw refl)))

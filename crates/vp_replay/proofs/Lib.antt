@@ -5,3 +5,4 @@ pub mod Costing
 pub mod ColumnLaws
 pub mod Runs
 pub mod SoFar
+pub mod Telling

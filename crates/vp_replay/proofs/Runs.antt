@@ -1,17 +1,15 @@
 -- The laws of games, game by game.
-use Rattle.std.proofs.Common.{◌≡◌, ℕ, ◌+◌, ◌-◌, ◌<◌, ◌≤◌, Bool, true, false, not, List, [], ◌∷◌, length, refl, sym, ap, ◌∙◌, arith, Some, None}
+use Rattle.std.proofs.Common.{◌≡◌, ℕ, ◌+◌, ◌-◌, ◌≤◌, true, false, not, List, [], ◌∷◌, refl, sym, ◌∙◌, arith, Some, None}
 use Rattle.std.specs.Prelude.{Option, ◌||◌, ◌==◌, nat_lt}
-use Rattle.std.proofs.lemmas.Bool.{eqb-true, eq-eqb, not-false, ltb-false}
-use Rattle.std.proofs.lemmas.Bool.Decides.{nat_tests}
+use Rattle.std.proofs.lemmas.Bool.{eqb-true, le-ltb, ltb-false, not-false}
 use Rattle.vp_pay.specs.declared.table.PayTable.{PayTable}
-use Rattle.vp_loggram.specs.Logs.{LogValue}
 use Rattle.vp_loggram.specs.declared.event.Event.{Event}
 use Rattle.vp_replay.specs.declared.rule.Breach.{Breach}
 use Rattle.vp_replay.specs.declared.rule.Broken.{Broken}
 use Rattle.vp_replay.specs.declared.rule.LogRule.TheVariants.{Bet, Funds, Pay, Credits}
-use Rattle.vp_replay.specs.Rules.{bet_breach, break_in, break_of, broken_if, cards_breach, credits_breach, first_break, first_of, funds_breach, or_later, paid, pay_breach}
-use Rattle.vp_replay.specs.LawfulGames.{AreLawfulGames, IsLawfulEvent, IsLawfulGame}
-use Rattle.vp_replay.proofs.LawfulCards.{first_none, rest_none, unbroken, or_first, or_second, lawful_cards}
+use Rattle.vp_replay.specs.Rules.{bet_breach, break_of, cards_breach, credits_breach, first_break, first_of, funds_breach, or_later, paid, pay_breach}
+use Rattle.vp_replay.specs.LawfulGames.{AreLawfulGames, IsLawfulGame}
+use Rattle.vp_replay.proofs.LawfulCards.{first_none, kept_cards, kept_if, lawful_cards, none_first, or_first, or_second, rest_none, right_count, unbroken}
 
 -- ---- one more game
 
@@ -76,3 +74,29 @@ lawful_games table game credits [] none = tt
 lawful_games table game credits (e ∷ rest) none =
     let next = next_lawful table game credits e rest none in
     (lawful_game table credits e next.0, lawful_games table (game + 1) e.credits rest next.1)
+
+-- ---- lawful games break no law
+
+right_bet : (bet coins : ℕ) → 1 ≤ bet → bet ≤ coins → (nat_lt bet 1 || nat_lt coins bet) ≡ false
+right_bet bet coins from to = rw (le-ltb bet 1 from, le-ltb coins bet to) refl
+
+kept_game : (table : PayTable) (credits : ℕ) (e : Event) → IsLawfulGame table credits e → break_of table credits e ≡ None
+unfolding break_of bet_breach funds_breach pay_breach credits_breach
+kept_game table credits e l =
+    let funds = l.funds in
+    let left = l.left in
+    let due : e.credits ≡ credits - e.bet + e.pay = omega arith in
+    let of_bet : bet_breach table e ≡ None = kept_if _ Bet e.bet table.coins (right_bet e.bet table.coins l.event.bet_from l.event.bet_to) in
+    let of_funds : funds_breach credits e ≡ None = kept_if _ Funds e.bet credits (le-ltb credits e.bet funds) in
+    let of_cards : cards_breach e ≡ None = kept_cards e l.event.cards in
+    let of_pay : pay_breach table e ≡ None = kept_if _ Pay e.pay (paid table e) (right_count e.pay (paid table e) l.event.pay) in
+    let of_credits : credits_breach credits e ≡ None = kept_if _ Credits e.credits (credits - e.bet + e.pay) (right_count e.credits (credits - e.bet + e.pay) due) in
+    none_first (bet_breach table e) (funds_breach credits e ∷ cards_breach e ∷ pay_breach table e ∷ credits_breach credits e ∷ []) of_bet
+    (none_first (funds_breach credits e) (cards_breach e ∷ pay_breach table e ∷ credits_breach credits e ∷ []) of_funds
+    (none_first (cards_breach e) (pay_breach table e ∷ credits_breach credits e ∷ []) of_cards
+    (none_first (pay_breach table e) (credits_breach credits e ∷ []) of_pay (none_first (credits_breach credits e) [] of_credits refl))))
+
+pub kept_games : (table : PayTable) (game credits : ℕ) (events : List Event) → AreLawfulGames table credits events → first_break table game credits events ≡ None
+unfolding first_break
+kept_games table game credits [] l = refl
+kept_games table game credits (e ∷ rest) l = rw (kept_game table credits e l.0) (kept_games table (game + 1) e.credits rest l.1)

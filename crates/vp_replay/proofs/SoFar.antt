@@ -16,7 +16,7 @@ use Rattle.vp_draws.proofs.Payments.{pay_le}
 use Rattle.vp_loggram.specs.Logs.{IsEvent, IsLog, LogValue, is_of_deck}
 use Rattle.vp_loggram.specs.declared.event.Event.{Event}
 use Rattle.vp_replay.specs.declared.summary.Summary.{Summary}
-use Rattle.vp_replay.specs.Rules.{break_in, break_of, first_break, paid}
+use Rattle.vp_replay.specs.Rules.{break_in, first_break, paid}
 use Rattle.vp_replay.specs.LawfulGames.{IsLawfulEvent}
 use Rattle.vp_replay.specs.Costs.{cost_of}
 use Rattle.vp_replay.specs.Summaries.{added, cost_line, cost_lines, last_credits, slip_of, summary_of}

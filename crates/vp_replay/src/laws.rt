@@ -1,6 +1,6 @@
 //! Laws of logs, each the contract of a function that does nothing.
 
-ghost use Rattle.std.specs.Prelude.{◌≡◌, None};
+ghost use Rattle.std.specs.Prelude.{◌≡◌, ◌↔◌, None};
 ghost use Rattle.vp_pay.specs.declared.table.PayTable.{PayTable};
 ghost use Rattle.vp_loggram.specs.Logs.{IsEvent, LogValue};
 ghost use Rattle.vp_loggram.specs.declared.event.Event.{Event};
@@ -11,9 +11,8 @@ ghost use Rattle.vp_replay.specs.Rules.{break_in};
 /// What it says that no game of a log breaks a law: each bets 1 to the coins of the table, out of the credits before it;
 /// its dealt cards differ, its held ones are some of these, and the drawn ones are as many others as it takes for five;
 /// it is paid what the table pays; and the credits behind it are those before it, less the bet, plus the pay.
-#[tactic(auto, using(crate::proofs::Runs::lawful_games))]
 pub fn lawful_logs_keep_the_laws()
-    ensures { (table : PayTable) (log : LogValue) → break_in table log ≡ None → AreLawfulGames table log.start log.events }
+    ensures { (table : PayTable) (log : LogValue) → ((break_in table log ≡ None) ↔ AreLawfulGames table log.start log.events) }
 {}
 
 /// What a cost is: the best value of the deal is that of the held cards, and the cost.

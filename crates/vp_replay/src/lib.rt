@@ -16,6 +16,6 @@ pub use breaks::lawful;
 pub use costs::cost;
 pub use games::Games;
 pub use laws::{costs_are_of_the_held_cards, lawful_logs_keep_the_laws};
-pub use replaying::replay;
+pub use replaying::{put_replay, replay};
 pub use rule::{Broken, LogRule};
 pub use summary::{Summary, put_summary};

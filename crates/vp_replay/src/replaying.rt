@@ -5,9 +5,9 @@ ghost use Rattle.vp_io.specs.Puts.{Puts};
 ghost use Rattle.vp_text.specs.Written.{line_of, written};
 ghost use Rattle.vp_loggram.specs.Logs.{IsLog};
 ghost use Rattle.vp_replay.specs.Rules.{break_in};
-ghost use Rattle.vp_replay.specs.Summaries.{added, cost_line, cost_lines, cost_words, summary_of};
+ghost use Rattle.vp_replay.specs.Summaries.{added, cost_line, cost_lines, cost_words, replay_lines, summary_of};
 
-use crate::{Games, Summary, cost};
+use crate::{Games, Summary, cost, put_summary};
 use vp_io::{Sink, WriteFault};
 use vp_lines::{Word, put_words};
 use vp_loggram::{Event, Log};
@@ -84,4 +84,17 @@ pub fn replay<K: Sink>(
         summary = added(&summary, &event, cost);
     }
     Ok(summary)
+}
+
+/// Writes what is told of a lawful log with cards of the table's deck: a line for each game whose hold costs something,
+/// and the six lines of its numbers.
+pub fn put_replay<K: Sink>(games: &Games, log: &Log, sink: &mut K) -> Result<(), WriteFault>
+    requires log { IsLog games.now.deck log.now }
+    requires lawful { break_in games.now log.now ≡ None }
+    // All lines are put; or a proper beginning of them, and a fault is counted.
+    ensures { Puts (K.told sink.old) (K.told sink.new) result (written (replay_lines games.now log.now)) }
+{
+    let deck = games.table().deck;
+    let summary = replay(games, log, true, sink)?;
+    put_summary(&summary, deck, sink)
 }
