@@ -1,6 +1,6 @@
 //! A whole log.
 
-ghost use Rattle.std.specs.Prelude.{◌≡◌, ◌*◌, ◌<◌, ◌≤◌, ◌++◌, [], ◌∷◌, codes, map, IfOk, OnOk};
+ghost use Rattle.std.specs.Prelude.{◌≡◌, ◌*◌, ◌<◌, ◌≤◌, ◌++◌, [], ◌∷◌, codes, length, map, IfOk, OnOk};
 ghost use Rattle.vp_text.specs.Written.{line_of, written};
 ghost use Rattle.vp_loggram.specs.Spelling.{event_words, key_number, log_text};
 ghost use Rattle.vp_gen.specs.Generator.{games_from, generated};
@@ -64,7 +64,8 @@ fn log_of<L: Ledger>(
     requires name { blank.name ≡ L.name }
     requires parts { blank.parts ≡ L.parts }
     requires share { 0 < blank.parts }
-    ensures { IfOk result (λ text. text.items ≡ written (log_text (generated game.now.table game.now.coin seed games))) }
+    ensures text { IfOk result (λ text. text.items ≡ written (log_text (generated game.now.table game.now.coin seed games))) }
+    ensures fits { IfOk result (λ text. length text.items ≤ 67108864) }
 {
     let _table = game.table();
     let start = u64::from(game.coin()) * u64::from(games);
@@ -76,11 +77,14 @@ fn log_of<L: Ledger>(
     Ok(text)
 }
 
-/// The log of so many games that is made from a seed.
+/// The text of the log of so many games that is made from a seed: a large log that anybody makes again from these
+/// numbers. The error is want of memory.
 pub fn make_log(alloc: Global, game: &Game, seed: u64, games: u32) -> Result<Vec<u8>, AllocError>
     requires some { 1 ≤ games }
     requires most { games ≤ 100000 }
-    ensures { IfOk result (λ text. text.items ≡ written (log_text (generated game.now.table game.now.coin seed games))) }
+    ensures text { IfOk result (λ text. text.items ≡ written (log_text (generated game.now.table game.now.coin seed games))) }
+    // No text is longer than an input may be.
+    ensures fits { IfOk result (λ text. length text.items ≤ 67108864) }
 {
     log_of::<Brand>(alloc, game, seed, games, Blank::new(1))
 }
