@@ -1,0 +1,6 @@
+pub mod Accepted
+pub mod Counts
+pub mod Drawing
+pub mod Fairness
+pub mod Lines
+pub mod Sizes

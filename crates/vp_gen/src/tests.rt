@@ -1,0 +1,3 @@
+//! Logs that are made.
+
+mod logs;
