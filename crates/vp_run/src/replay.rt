@@ -1,13 +1,9 @@
 //! `replay`: what the holds of a lawful log cost.
 
-ghost use Rattle.std.specs.Prelude.{◌≡◌, ◌<◌, ◌≤◌, ◌*◌, None, IfOk, length};
-ghost use Rattle.vp_count.specs.Table.{first_word};
-ghost use Rattle.vp_io.specs.Puts.{Puts};
+ghost use Rattle.std.specs.Prelude.{◌≡◌, ◌<◌, ◌≤◌, IfOk, length};
 ghost use Rattle.vp_loggram.specs.Logs.{IsLog};
 ghost use Rattle.vp_pay.specs.Table.{IsTable};
 ghost use Rattle.vp_replay.specs.Rules.{break_in};
-ghost use Rattle.vp_replay.specs.Summaries.{replay_lines};
-ghost use Rattle.vp_text.specs.Written.{written};
 ghost use Rattle.vp_answer.specs.Reads.{Reads};
 ghost use Rattle.vp_run.specs.Replay.{replay_input, rule_of};
 
@@ -19,7 +15,7 @@ use vp_io::{Sink, WriteFault};
 use vp_loggram::Log;
 use vp_pay::PayTable;
 use vp_region::Region;
-use vp_replay::{Broken, Games, LogRule, lawful, put_summary, replay};
+use vp_replay::{Broken, Games, LogRule, lawful, put_replay};
 use vp_text::{Lines, Refused};
 use vp_wild::Steps;
 
@@ -74,17 +70,6 @@ impl<'a> ReplayJob<'a> {
         let games = Games::of(&self.table, words);
         put_replay(&games, &self.log, sink)
     }
-}
-
-/// Puts the lines of a lawful log.
-fn put_replay<K: Sink>(games: &Games, log: &Log, sink: &mut K) -> Result<(), WriteFault>
-    requires table { IsTable games.now }
-    requires log { IsLog games.now.deck log.now }
-    requires lawful { break_in games.now log.now ≡ None }
-    ensures { Puts (K.told sink.old) (K.told sink.new) result (written (replay_lines games.now log.now)) }
-{
-    let summary = replay(games, log, true, sink)?;
-    put_summary(&summary, games.table().deck, sink)
 }
 
 /// The first game of a log that breaks a law, and the law. The hands that are paid are not counted.
