@@ -1,5 +1,5 @@
 -- The lines of rules that are left to put.
-use Rattle.std.proofs.Common.{◌≡◌, ℕ, zero, suc, ◌+◌, ◌<◌, ◌≤◌, List, [], ◌∷◌, ◌++◌, length, drop, get_or, refl, ap, sym, ◌∙◌, arith}
+use Rattle.std.proofs.Common.{◌≡◌, ℕ, zero, suc, ◌+◌, ◌<◌, ◌≤◌, List, [], ◌∷◌, ◌++◌, length, drop, drop-cons, get_or, refl, ap, sym, ◌∙◌, arith}
 use Rattle.vp_text.specs.Written.{line_of, written}
 use Rattle.vp_audit.specs.declared.audited.Tally.{Tally}
 use Rattle.vp_run.specs.Audit.{rule_lines, rule_words}
@@ -7,12 +7,9 @@ use Rattle.vp_run.specs.Audit.{rule_lines, rule_words}
 -- the next rule's line, and those behind it
 pub rules_left : (tallies : List Tally) (place : ℕ) (other : Tally) → place < length tallies
     → written (rule_lines (place + 1) (drop place tallies)) ≡ line_of (rule_words (place + 1) (get_or tallies place other)) ++ written (rule_lines (place + 1 + 1) (drop (place + 1) tallies))
-rules_left tallies place other low = ap (λ (ts : List Tally). written (rule_lines (place + 1) ts)) (split tallies place low)
-  where
-    split : (tallies : List Tally) (place : ℕ) → place < length tallies → drop place tallies ≡ get_or tallies place other ∷ drop (place + 1) tallies
-    split [] place low = absurd (omega arith)
-    split (t ∷ ts) zero low = refl
-    split (t ∷ ts) (suc k) low = split ts k (omega arith)
+rules_left tallies place other low =
+    let next : suc place ≡ place + 1 = omega arith in
+    ap (λ (ts : List Tally). written (rule_lines (place + 1) ts)) (drop-cons tallies place other low ∙ ap (λ n. get_or tallies place other ∷ drop n tallies) next)
 
 pub no_rules_left : (tallies : List Tally) (place : ℕ) → length tallies ≤ place → written (rule_lines (place + 1) (drop place tallies)) ≡ []
 no_rules_left tallies place high = ap (λ (ts : List Tally). written (rule_lines (place + 1) ts)) (none tallies place high)

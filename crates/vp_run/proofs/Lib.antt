@@ -1,5 +1,6 @@
 pub mod AuditLines
 pub mod NoCommand
+pub mod PrintedLosses
 pub mod CommandWords
 pub mod CheckInputs
 pub mod EveryDeals

@@ -11,3 +11,4 @@ pub mod Memory
 pub mod Arguments
 pub mod EveryDeal
 pub mod Replayed
+pub mod Losses

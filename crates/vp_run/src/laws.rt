@@ -10,6 +10,7 @@ ghost use Rattle.vp_run.specs.Replayed.{ReplaysTellCosts};
 ghost use Rattle.vp_run.specs.EveryDeal.{CertificatesAreChecked, CertificatesTellEveryDeal, ChecksTellEveryDeal, ChecksTellWalkedDeals, DealsPrintBestHolds, MetersAreTold};
 ghost use Rattle.vp_run.specs.Meter.{MeterInputsAreRead};
 ghost use Rattle.vp_run.specs.Multi.{MultiInputsAreRead};
+ghost use Rattle.vp_run.specs.Losses.{AuditsPrintLosses};
 
 /// Words are a command exactly where they spell it: its name, and its numbers in decimal digits, each in its range.
 pub fn commands_are_spelled()
@@ -106,4 +107,11 @@ pub fn meter_inputs_are_read()
 /// deals, so the return is exact at every whole payment between printed breakpoints.
 pub fn meters_are_told()
     ensures { MetersAreTold }
+{}
+
+/// The answer of `audit` to each pay table and list that it takes prints the loss of the list: the optimum, which is the
+/// sum over all deals of the best values, less the sum over all deals of the least value that the list allows; among the
+/// holds that the first matching rule matches, where no exception is one of the deal's class.
+pub fn audits_print_losses()
+    ensures { AuditsPrintLosses }
 {}

@@ -1,0 +1,33 @@
+-- What the answer of `audit` tells.
+use Rattle.std.specs.Prelude.{◌≡◌, ℕ, ◌-◌, List, None, Some, Ok, slice_index_or, sum_by}
+use Rattle.vp_text.specs.Lines.{Word}
+use Rattle.vp_text.specs.Written.{written}
+use Rattle.vp_pay.specs.declared.table.PayTable.{PayTable}
+use Rattle.vp_draws.specs.Draws.{sum_of_best}
+use Rattle.vp_rule.specs.Lists.{RuleList}
+use Rattle.vp_audit.specs.Audits.{audited, deals}
+use Rattle.vp_audit.specs.Laws.{IsLeastAllowed}
+use Rattle.vp_audit.specs.Values.{deciding, excepted, least_value, no_rule}
+use Rattle.vp_answer.specs.Answers.{Answer}
+use Rattle.vp_answer.specs.declared.status.Status.TheVariants.{Done}
+use Rattle.vp_run.specs.Answer.{answer}
+use Rattle.vp_run.specs.Audit.{Listed, audit_input, audit_lines}
+use Rattle.vp_run.specs.Commands.{command_of}
+use Rattle.vp_run.specs.declared.command.Command.TheVariants.{Over}
+use Rattle.vp_run.specs.declared.command.Task.TheVariants.{Audit}
+
+-- the answer are the lines of a list, the loss among them. It is the sum over all deals of the best values, less that of the least
+-- values; and where no exception is of a deal's class, and a rule is the first that matches some hold, the least value is the least
+-- among the holds that this rule matches
+pub record PrintsLoss (l : Listed) (due : Answer) : Type 0 where
+  pub status : due.status ≡ Done
+  pub text : due.text ≡ written (audit_lines l)
+  pub loss : (audited l.table l.coin l.list).loss ≡ sum_of_best l.table l.coin - sum_by (least_value l.table l.coin l.list) (deals l.table.deck)
+  pub ruled : (cards : List ℕ) (place : ℕ) → excepted l.list.exceptions cards ≡ None → deciding l.table l.list.rules cards ≡ Some place
+      → IsLeastAllowed l.table l.coin (slice_index_or l.list.rules place no_rule) cards (least_value l.table l.coin l.list cards)
+
+-- the answer of `audit` to each pay table and list that it takes
+abbrev pub AuditsPrintLosses : Type 0
+AuditsPrintLosses = (words : List Word) (coin : ℕ) (bytes : List ℕ) (table : PayTable) (list : RuleList)
+    → command_of words ≡ Some (Over (Audit coin)) → audit_input coin bytes ≡ Ok (table, list)
+    → PrintsLoss (record { table = table; coin = coin; list = list }) (answer words bytes)
