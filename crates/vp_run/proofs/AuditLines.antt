@@ -1,8 +1,10 @@
 -- The lines of rules that are left to put.
-use Rattle.std.proofs.Common.{◌≡◌, ℕ, zero, suc, ◌+◌, ◌<◌, ◌≤◌, List, [], ◌∷◌, ◌++◌, length, drop, drop-cons, get_or, refl, ap, sym, ◌∙◌, arith}
+use Rattle.std.proofs.Common.{append-nil, codes, ◌≡◌, ℕ, zero, suc, ◌+◌, ◌<◌, ◌≤◌, List, [], ◌∷◌, ◌++◌, length, drop, drop-cons, get_or, refl, ap, sym, ◌∙◌, arith}
+use Rattle.std.proofs.lemmas.Grind.{flat_map-append}
 use Rattle.vp_text.specs.Written.{line_of, written}
+use Rattle.vp_audit.specs.declared.audited.Audited.{Audited}
 use Rattle.vp_audit.specs.declared.audited.Tally.{Tally}
-use Rattle.vp_run.specs.Audit.{rule_lines, rule_words}
+use Rattle.vp_run.specs.Audit.{audited_lines, rule_lines, rule_words, sum_lines, tally_words}
 
 -- the next rule's line, and those behind it
 pub rules_left : (tallies : List Tally) (place : ℕ) (other : Tally) → place < length tallies
@@ -19,3 +21,11 @@ no_rules_left tallies place high = ap (λ (ts : List Tally). written (rule_lines
     none [] (suc k) high = refl
     none (t ∷ ts) zero high = absurd (omega arith)
     none (t ∷ ts) (suc k) high = none ts k (omega arith)
+
+-- the text in its three parts
+pub audited_text : (a : Audited) (under : ℕ) → written (audited_lines a under) ≡ written (sum_lines a under) ++ (written (rule_lines 1 a.rules.items) ++ line_of (tally_words (codes "none") a.none))
+audited_text a under =
+    let none = tally_words (codes "none") a.none in
+    flat_map-append line_of (sum_lines a under) (rule_lines 1 a.rules.items ++ none ∷ [])
+    ∙ ap (λ (text : List ℕ). written (sum_lines a under) ++ text)
+    (flat_map-append line_of (rule_lines 1 a.rules.items) (none ∷ []) ∙ ap (λ (text : List ℕ). written (rule_lines 1 a.rules.items) ++ text) (append-nil (line_of none)))

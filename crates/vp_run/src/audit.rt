@@ -50,7 +50,7 @@ impl<'a> AuditJob<'a> {
 
     pub(crate) fn new(table: PayTable, coin: u8, list: List<'a>) -> AuditJob<'a>
         requires { IsListed (record { table = table; coin = coin; list = list }) }
-        ensures { result ≡ record { table = table; coin = coin; list = list } }
+        ensures { result ≡ record { table = table; coin = coin; list = list.entry } }
     {
         AuditJob { table, coin, list }
     }

@@ -6,6 +6,7 @@ mod check;
 mod deal;
 mod faults;
 mod meter;
+mod multi;
 mod replay;
 mod tables;
 mod words;
