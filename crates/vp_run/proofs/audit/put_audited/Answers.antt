@@ -12,10 +12,10 @@ returns-in_err-put_sums g c = Puts_as (sym (audited_text c.args.audited.now c.ar
 
 pub returns-in_err-put_rules : goal.returns-in_err-put_rules
 returns-in_err-put_rules g c =
-    let rules = Puts_as (ap (λ (ts : List Tally). written (rule_lines 1 ts)) c.as_slice.ensures) c.put_rules.ensures in
+    let rules = Puts_as (ap (λ (ts : List Tally). written (rule_lines 1 ts)) c.as_slice.ensures.value) c.put_rules.ensures in
     Puts_as (sym (audited_text c.args.audited.now c.args.under)) (Puts_then _ c.in_ok-put_sums.was c.put_sums.ensures (Puts_stopped _ c.in_err-put_rules.was c.from_residual-in_err-put_rules.ensures.0 rules))
 
 pub returns : goal.returns
 returns g c =
-    let rules = Puts_as (ap (λ (ts : List Tally). written (rule_lines 1 ts)) c.as_slice.ensures) c.put_rules.ensures in
+    let rules = Puts_as (ap (λ (ts : List Tally). written (rule_lines 1 ts)) c.as_slice.ensures.value) c.put_rules.ensures in
     Puts_as (sym (audited_text c.args.audited.now c.args.under)) (Puts_then _ c.in_ok-put_sums.was c.put_sums.ensures (Puts_then _ c.in_ok-put_rules.was rules c.put_none.ensures))
