@@ -42,7 +42,7 @@ seen_as (Ok a) = refl
 seen_as (Err e) = refl
 
 pub inputs_read : ReplayInputsAreRead
-inputs_read = section_read fits_all log_text (λ t. IsLog t.deck) as_spelled (λ t. log_at t.deck) (λ t. log_at t.deck) log_exact (λ t feed. seen_as (log_at t.deck feed))
+inputs_read = section_read fits_all (λ t. log_text) (λ t. IsLog t.deck) as_spelled (λ t. log_at t.deck) (λ t. log_at t.deck) log_exact (λ t feed. seen_as (log_at t.deck feed))
 
 -- a pay table and a log that were read are valid
 pub read_valid : (bytes : List ℕ) (table : PayTable) (log : LogValue) → replay_input bytes ≡ Ok (table, log) → IsTable table × IsLog table.deck log

@@ -49,5 +49,5 @@ as_spelled log = log
 -- a pay table, and a log with cards of its deck
 abbrev pub ReplayInputsAreRead : Type 0
 ReplayInputsAreRead = AreRead replay_input
-    (SpellsSection fits_all log_text (λ t. IsLog t.deck) as_spelled)
-    (RefusesSection fits_all log_text (λ t. IsLog t.deck))
+    (SpellsSection fits_all (λ t. log_text) (λ t. IsLog t.deck) as_spelled)
+    (RefusesSection fits_all (λ t. log_text) (λ t. IsLog t.deck))
