@@ -6,12 +6,13 @@ ghost use Rattle.vp_pay.specs.Bets.{IsBet};
 ghost use Rattle.vp_count.specs.Table.{first_word};
 
 use super::deals::hand_of;
-use super::tables::{JACKS, table_of};
+use super::tables::table_of;
 use crate::{Game, Squares};
 use std::test::Fail;
 use vp_card::Hand;
 use vp_count::table_words;
 use vp_pay::PayTable;
+use vp_pay::samples::JACKS;
 
 /// The values with squares of the holds 30 and 31 of the hand.
 fn squared(table: &PayTable, words: &mut [u64], more: &mut [u64], hand: &Hand) -> [u64; 2]
