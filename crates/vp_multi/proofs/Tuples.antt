@@ -186,7 +186,7 @@ squares_is f (suc k) xs =
 pub cancel : (a b q : ℕ) → 0 < q → a * q ≡ b * q → a ≡ b
 cancel a b q pos e = sym (mul-div_cancel a pos) ∙ (ap (λ n. n / q) e ∙ mul-div_cancel b pos)
 
--- T1 * L = m1 * q ^ k
+-- the sum of the totals times the common denominator
 pub first_total : (t s q p k l value : ℕ) → 0 < q → t * q ≡ k * s * p → value * q ≡ s * l → t * l ≡ k * value * p
 first_total t s q p k l value pos e f = cancel (t * l) (k * value * p) q pos (swap t l q ∙ (rw e (move k s p l ∙ (rw (← f) (back k value q p)))))
   where
@@ -199,7 +199,7 @@ first_total t s q p k l value pos e f = cancel (t * l) (k * value * p) q pos (sw
     back : (k value q p : ℕ) → k * (value * q) * p ≡ k * value * p * q
     back k value q p = omega arith
 
--- T2 * L * L = m2 * q ^ k
+-- the sum of the squares of the totals times the square of the common denominator
 pub second_total : (u w s q p k j l value value_2 : ℕ) → 0 < q → u * (q * q) ≡ (k * w * q + j * (s * s)) * p → value * q ≡ s * l → value_2 * q ≡ w * l
     → u * l * l ≡ (k * value_2 * l + j * (value * value)) * p
 second_total u w s q p k j l value value_2 pos e f g = cancel (u * l * l) ((k * value_2 * l + j * (value * value)) * p) (q * q) (grind arith)
