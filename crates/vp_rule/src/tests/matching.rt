@@ -1,11 +1,14 @@
 //! Rules asked of holds, worked by hand.
 
-use crate::{Holds, Rule, Test, matches};
-use arrayvec::ArrayVec;
+ghost use Rattle.std.specs.Prelude.{◌≡◌, ◌<◌, ◌≤◌, length};
+ghost use Rattle.vp_card.specs.Cards.{IsDeck};
+
+use super::writing::list_in;
+use crate::{Holds, Rule, matches};
 use std::marker::Brand;
 use std::sync::ledger::{Blank, Ledger};
-use std::test::Fail;
-use vp_card::{Hand, RankSet};
+use std::test::*;
+use vp_card::Hand;
 use vp_pay::samples::{DEUCES, JACKS, TWO_JOKERS};
 use vp_pay::{PayTable, read_deal};
 use vp_text::Lines;
@@ -33,145 +36,216 @@ fn asked<L: Ledger>(
     )
 }
 
+/// The hand of a deal line.
+fn hand_of(deal: &[u8], deck: u8) -> Option<Hand>
+    requires short { length deal.now ≤ 67108864 }
+    requires deck { IsDeck deck }
+{
+    read_deal(&mut Lines::new(deal), deck).ok()
+}
+
+// Masks are over the cards in rising order; with DEUCES the twos are wild.
 #[test]
 fn rules_asked_of_holds(rt: HostRuntime) -> Result<(), Fail> {
-    let any = RankSet::read(b"any").ok_or("ranks")?;
-    let eights = RankSet::read(b"8").ok_or("ranks")?;
-    let twos = RankSet::read(b"2").ok_or("ranks")?;
-    let broadway = RankSet::read(b"TJQ").ok_or("ranks")?;
-    // Masks are over the cards in rising order: 4s Js Qs Ks As.
-    let royal = b"deal As Ks Qs Js 4s";
-    // 3c 8c 8d 8h 8s.
-    let eight = b"deal 8c 8d 8h 8s 3c";
-    // 2c 2d Ts Js Qs, of which the twos are wild with DEUCES.
-    let deuces = b"deal 2c 2d Ts Js Qs";
-    // 2c 3c 4c Jo Jk.
-    let jokers = b"deal Jk Jo 2c 3c 4c";
-    for (text, deal, mask, tests, due) in [
-        (JACKS, royal, 30, [Test::Hold(4), Test::Royal], true),
-        (JACKS, royal, 31, [Test::Suited, Test::Royal], false),
-        (JACKS, royal, 31, [Test::Suited, Test::Made(4)], true),
-        (JACKS, royal, 31, [Test::Mixed, Test::Made(4)], false),
-        (JACKS, royal, 30, [Test::Suited, Test::Made(4)], false),
+    let royal: &[u8] = b"deal As Ks Qs Js 4s";
+    let eight: &[u8] = b"deal 8c 8d 8h 8s 3c";
+    let deuces: &[u8] = b"deal 2c 2d Ts Js Qs";
+    let jokers: &[u8] = b"deal Jk Jo 2c 3c 4c";
+    let cases: [(&[u8], &[u8], u8, &[u8], bool); 29] = [
+        (JACKS, royal, 30, b"list 2\nrule hold 4 royal\nend\n", true),
+        (JACKS, royal, 31, b"list 2\nrule suited royal\nend\n", false),
+        (
+            JACKS,
+            royal,
+            31,
+            b"list 2\nrule suited made flush\nend\n",
+            true,
+        ),
+        (
+            JACKS,
+            royal,
+            31,
+            b"list 2\nrule mixed made flush\nend\n",
+            false,
+        ),
         (
             JACKS,
             royal,
             30,
-            [Test::Windows(1, 1), Test::Ranks(4)],
+            b"list 2\nrule suited made flush\nend\n",
+            false,
+        ),
+        (
+            JACKS,
+            royal,
+            30,
+            b"list 2\nrule windows 1 1 ranks 4\nend\n",
             true,
         ),
-        // With no held cards.
-        (JACKS, royal, 0, [Test::Suited, Test::Royal], true),
-        (JACKS, royal, 0, [Test::Windows(10, 10), Test::Mixed], false),
+        (JACKS, royal, 0, b"list 2\nrule suited royal\nend\n", true),
         (
             JACKS,
             royal,
             0,
-            [Test::Windows(10, 10), Test::Equal(0)],
+            b"list 2\nrule windows 10 10 mixed\nend\n",
+            false,
+        ),
+        (
+            JACKS,
+            royal,
+            0,
+            b"list 2\nrule windows 10 10 equal 0\nend\n",
             true,
         ),
-        // A rank that repeats fits no window.
         (
             JACKS,
             eight,
             30,
-            [Test::Equal(4), Test::Windows(0, 0)],
+            b"list 2\nrule equal 4 windows 0 0\nend\n",
             true,
         ),
-        (JACKS, eight, 6, [Test::Ranks(1), Test::Windows(0, 0)], true),
-        (JACKS, eight, 6, [Test::Equal(1), Test::Ranks(1)], false),
-        (JACKS, eight, 1, [Test::Windows(3, 3), Test::Ranks(1)], true),
+        (
+            JACKS,
+            eight,
+            6,
+            b"list 2\nrule ranks 1 windows 0 0\nend\n",
+            true,
+        ),
+        (
+            JACKS,
+            eight,
+            6,
+            b"list 2\nrule equal 1 ranks 1\nend\n",
+            false,
+        ),
+        (
+            JACKS,
+            eight,
+            1,
+            b"list 2\nrule windows 3 3 ranks 1\nend\n",
+            true,
+        ),
         (
             JACKS,
             eight,
             3,
-            [Test::Left(eights, 3), Test::LeftSuit(0)],
+            b"list 2\nrule left 8 3 leftsuit 0\nend\n",
             true,
         ),
         (
             JACKS,
             eight,
             2,
-            [Test::Left(any, 4), Test::LeftSuit(1)],
+            b"list 2\nrule left any 4 leftsuit 1\nend\n",
             true,
         ),
         (
             JACKS,
             eight,
             2,
-            [Test::Left(eights, 4), Test::Suited],
+            b"list 2\nrule left 8 4 suited\nend\n",
             false,
         ),
-        // Wild cards have no suit and no rank, held or left.
-        (DEUCES, deuces, 31, [Test::Wilds(2), Test::Royal], true),
-        (DEUCES, deuces, 31, [Test::Suited, Test::Made(2)], true),
+        (
+            DEUCES,
+            deuces,
+            31,
+            b"list 2\nrule wilds 2 royal\nend\n",
+            true,
+        ),
+        (
+            DEUCES,
+            deuces,
+            31,
+            b"list 2\nrule suited made wild-royal\nend\n",
+            true,
+        ),
         (
             DEUCES,
             deuces,
             3,
-            [Test::Suited, Test::Windows(10, 10)],
+            b"list 2\nrule suited windows 10 10\nend\n",
             true,
         ),
-        (DEUCES, deuces, 3, [Test::Equal(0), Test::Ranks(0)], true),
+        (
+            DEUCES,
+            deuces,
+            3,
+            b"list 2\nrule equal 0 ranks 0\nend\n",
+            true,
+        ),
         (
             DEUCES,
             deuces,
             4,
-            [Test::Left(any, 2), Test::LeftSuit(2)],
+            b"list 2\nrule left any 2 leftsuit 2\nend\n",
             true,
         ),
         (
             DEUCES,
             deuces,
             31,
-            [Test::Count(twos, 0, 0), Test::Hold(5)],
+            b"list 2\nrule count 2 0 0 hold 5\nend\n",
             true,
         ),
         (
             DEUCES,
             deuces,
             28,
-            [Test::Count(broadway, 3, 3), Test::Wilds(0)],
+            b"list 2\nrule count TJQ 3 3 wilds 0\nend\n",
             true,
         ),
         (
             DEUCES,
             deuces,
             28,
-            [Test::Count(broadway, 0, 2), Test::Wilds(0)],
+            b"list 2\nrule count TJQ 0 2 wilds 0\nend\n",
             false,
         ),
         (
             JACKS,
             deuces,
             31,
-            [Test::Mixed, Test::Count(twos, 2, 2)],
+            b"list 2\nrule mixed count 2 2 2\nend\n",
             true,
         ),
         (
             TWO_JOKERS,
             jokers,
             24,
-            [Test::Wilds(2), Test::Hold(2)],
+            b"list 2\nrule wilds 2 hold 2\nend\n",
             true,
         ),
-        (TWO_JOKERS, jokers, 31, [Test::Made(1), Test::Suited], true),
-        (TWO_JOKERS, jokers, 31, [Test::Made(0), Test::Suited], false),
+        (
+            TWO_JOKERS,
+            jokers,
+            31,
+            b"list 2\nrule made both suited\nend\n",
+            true,
+        ),
+        (
+            TWO_JOKERS,
+            jokers,
+            31,
+            b"list 2\nrule made one suited\nend\n",
+            false,
+        ),
         (
             TWO_JOKERS,
             jokers,
             7,
-            [Test::Left(any, 0), Test::LeftSuit(0)],
+            b"list 2\nrule left any 0 leftsuit 0\nend\n",
             true,
         ),
-    ] {
-        let table = PayTable::read(&mut Lines::new(text))?;
-        let hand = read_deal(&mut Lines::new(deal), table.deck)?;
-        let rule = Rule {
-            tests: ArrayVec::try_from(tests.as_slice())?,
-        };
-        let found = asked::<Brand>(&rule, &table, &hand, mask, Blank::new(1));
-        assert_eq!(rt; found, (due, due), "{tests:?} of {mask}");
+    ];
+    for (text, deal, mask, rules, due) in cases {
+        assert!(rt; text.len() < 2000 && deal.len() < 100 && rules.len() < 200 && mask < 32);
+        let table = PayTable::in_text(text).ok_or("a table")?;
+        let hand = hand_of(deal, table.deck).ok_or("a hand")?;
+        let list = list_in(rules, &table).ok_or("a list")?;
+        assert_eq!(rt; list.rules().len(), 1);
+        let found = asked::<Brand>(&list.rules()[0], &table, &hand, mask, Blank::new(1));
+        assert_eq!(rt; found, (due, due));
     }
     Ok(())
 }

@@ -13,7 +13,7 @@ use vp_pay::samples::JACKS;
 use vp_text::Lines;
 
 /// The list that a text begins with.
-fn list_in<'a>(text: &'a [u8], table: &PayTable) -> Option<List<'a>>
+pub(super) fn list_in<'a>(text: &'a [u8], table: &PayTable) -> Option<List<'a>>
     requires table { IsTable table.now }
     requires short { length text.now ≤ 67108864 }
     ensures { IfSome result (λ list. IsList table.now list) }
