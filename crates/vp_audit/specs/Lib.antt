@@ -4,3 +4,4 @@ pub mod Sums
 pub mod Pending
 pub mod Choices
 pub mod Laws
+pub mod Compiled
