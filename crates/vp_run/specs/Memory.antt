@@ -1,7 +1,8 @@
 -- How much memory an answer needs beside its input.
-use Rattle.std.specs.Prelude.{ℕ, ◌*◌, List, Option, Some, None, ◌+◌, ◌-◌}
+use Rattle.std.specs.Prelude.{ℕ, Bool, true, ◌*◌, List, Option, Some, None, ◌+◌, ◌-◌}
 use Rattle.vp_count.specs.Table.{first_word}
 use Rattle.vp_answer.specs.Answers.{words_read}
+use Rattle.vp_answer.specs.Asking.{alone_read}
 use Rattle.vp_run.specs.Answer.{job_of}
 use Rattle.vp_run.specs.Commands.{command_of}
 use Rattle.vp_run.specs.declared.command.Command.{Command}
@@ -29,3 +30,16 @@ command_room (Some (Over task)) bytes = words_read job_words (job_of task bytes)
 -- how many words of 64 bits the answer to these words and this input needs
 unfoldable pub region_words : List (List ℕ) → List ℕ → ℕ
 region_words words bytes = command_room (command_of words) bytes
+
+-- no job needs memory beside its words
+abbrev pub job_alone : Job → Bool
+job_alone job = true
+
+abbrev pub command_alone : Option Command → List ℕ → Bool
+command_alone None bytes = true
+command_alone (Some Tables) bytes = true
+command_alone (Some (Over task)) bytes = alone_read job_alone (job_of task bytes)
+
+-- the answer to these words and this input needs no memory beside its words
+unfoldable pub in_region : List (List ℕ) → List ℕ → Bool
+in_region words bytes = command_alone (command_of words) bytes

@@ -20,7 +20,8 @@ use crate::deal::{DealJob, read_deal_input};
 use crate::meter::{MeterJob, read_meter_input};
 use crate::multi::MultiJob;
 use crate::replay::{ReplayJob, first_break, read_replay_input, rule_of as law_of};
-use vp_answer::{Stop, Work};
+use std::alloc::Global;
+use vp_answer::{PutStop, Stop, Work};
 use vp_check::{Checked, Finding, check};
 use vp_io::{Sink, WriteFault};
 use vp_loggram::Log;
@@ -41,9 +42,11 @@ pub enum Job<'a> {
 
 impl<'a> Work for Job<'a> {
     ghost use Rattle.vp_run.specs.Answer.{job_text};
-    ghost use Rattle.vp_run.specs.Memory.{job_words};
+    ghost use Rattle.vp_run.specs.Memory.{job_alone, job_words};
 
     ghost room = { job_words };
+
+    ghost alone = { job_alone };
 
     ghost text = { job_text };
 
@@ -68,6 +71,18 @@ impl<'a> Work for Job<'a> {
             Job::Replay(job) => job.put(region, sink),
             Job::Meter(job) => job.put(region, sink),
             Job::Multi(job) => job.put(region, sink),
+        }
+    }
+
+    fn put_asking<K: Sink>(
+        &self,
+        _alloc: Global,
+        region: &mut Region,
+        sink: &mut K,
+    ) -> Result<(), PutStop> {
+        match self.put(region, sink) {
+            Ok(()) => Ok(()),
+            Err(WriteFault) => Err(PutStop::WriteFault),
         }
     }
 }

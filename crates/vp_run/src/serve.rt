@@ -1,9 +1,9 @@
 //! The text of an answer, written over an open region of memory.
 
-ghost use Rattle.std.specs.Prelude.{◌≡◌, ◌≤◌, length, map};
+ghost use Rattle.std.specs.Prelude.{◌≡◌, ◌≤◌, length, map, true};
 ghost use Rattle.vp_io.specs.Puts.{Puts};
 ghost use Rattle.vp_run.specs.Answer.{answer};
-ghost use Rattle.vp_run.specs.Memory.{region_words};
+ghost use Rattle.vp_run.specs.Memory.{in_region, region_words};
 
 use crate::command::{Command, command_of};
 use crate::job::job_of;
@@ -29,7 +29,7 @@ pub fn region_words(words: &[&str], bytes: &[u8]) -> usize
 
 /// Writes the text of the answer to the words and the input, in the memory of the region. It asks for no more: the only
 /// answer beside Ok is a write fault, with its cause.
-#[tactic(auto, unfolding(crate::specs::Memory::region_words, crate::specs::Answer::answer, crate::specs::Answer::usage, crate::specs::Answer::tables_answer))]
+#[tactic(auto, unfolding(crate::specs::Memory::region_words, crate::specs::Memory::in_region, crate::specs::Answer::answer, crate::specs::Answer::usage, crate::specs::Answer::tables_answer))]
 pub fn served<K: Sink>(
     words: &[&str],
     bytes: &[u8],
@@ -38,6 +38,7 @@ pub fn served<K: Sink>(
 ) -> Result<(), WriteFault>
     requires limit { length bytes.now ≤ 67108864 }
     requires region { region_words (map (λ w. w.now) words.now) bytes.now ≤ region.old }
+    requires alone { in_region (map (λ w. w.now) words.now) bytes.now ≡ true }
     ensures puts { Puts (K.told sink.old) (K.told sink.new) result (answer (map (λ w. w.now) words.now) bytes.now).text }
     // The region is as large as before, so it serves again.
     ensures same { region.new ≡ region.old }
