@@ -4,6 +4,7 @@ pub mod PrintedLosses
 pub mod CommandWords
 pub mod CheckInputs
 pub mod EveryDeals
+pub mod CheckedInParts
 pub mod ReplayWords
 pub mod Replays
 pub mod Meters

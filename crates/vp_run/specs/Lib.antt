@@ -10,5 +10,6 @@ pub mod Audit
 pub mod Memory
 pub mod Arguments
 pub mod EveryDeal
+pub mod CheckedInParts
 pub mod Replayed
 pub mod Losses

@@ -7,6 +7,7 @@ ghost use Rattle.vp_run.specs.Commands.{CommandsAreSpelled};
 ghost use Rattle.vp_run.specs.Deal.{DealInputsAreRead};
 ghost use Rattle.vp_run.specs.Replay.{ReplayInputsAreRead};
 ghost use Rattle.vp_run.specs.Replayed.{ReplaysTellCosts};
+ghost use Rattle.vp_run.specs.CheckedInParts.{PartsTellEveryDeal, PartsTellWalkedDeals};
 ghost use Rattle.vp_run.specs.EveryDeal.{CertificatesAreChecked, CertificatesTellEveryDeal, ChecksTellEveryDeal, ChecksTellWalkedDeals, DealsPrintBestHolds, MetersAreTold};
 ghost use Rattle.vp_run.specs.Meter.{MeterInputsAreRead};
 ghost use Rattle.vp_run.specs.Multi.{MultiInputsAreRead};
@@ -87,6 +88,14 @@ pub fn certificates_tell_every_deal()
     ensures check { ChecksTellEveryDeal }
     // Where some class lines are walked, the holds that are printed on these lines are told so.
     ensures walked { ChecksTellWalkedDeals }
+{}
+
+/// Many calls of `check` on one certificate, each of which walks some of its class lines, tell what one call tells that
+/// walks them all: where each is a yes, and each class line of a range is walked by some of them, they tell the deals of
+/// these lines; where each class line is, they tell every deal.
+pub fn checks_in_parts_tell_every_deal()
+    ensures range { PartsTellWalkedDeals }
+    ensures all { PartsTellEveryDeal }
 {}
 
 /// What `certify` prints is an input of `check`, short enough to be read, with which it finds no fault, whatever class
