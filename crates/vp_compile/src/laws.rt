@@ -1,6 +1,6 @@
 //! Laws of matrices and orders, each the contract of a function that does nothing.
 
-ghost use Rattle.vp_compile.specs.Laws.{CellsStandByClass, FirstAreExchanged, SettledStay};
+ghost use Rattle.vp_compile.specs.Laws.{CellsStandByClass, FirstAreExchanged, SettledStay, FewestAreExcepted};
 
 /// A law, for proofs: where the cell of a class and a rule stands.
 pub fn cells_stand_by_class()
@@ -11,4 +11,10 @@ pub fn cells_stand_by_class()
 pub fn orders_settle()
     ensures stay { SettledStay }
     ensures exchanged { FirstAreExchanged }
+{}
+
+/// A law, for proofs: the excepted places are the fewest classes without which an order loses at most a limit, and no other
+/// places are.
+pub fn fewest_are_excepted()
+    ensures { FewestAreExcepted }
 {}
