@@ -4,7 +4,9 @@ pub mod Decisions
 pub mod Extremes
 pub mod KeptValues
 pub mod LeastAllowed
+pub mod ListLines
 pub mod Lookups
+pub mod PassedClasses
 pub mod SoFar
 pub mod Start
 pub mod SumsMore

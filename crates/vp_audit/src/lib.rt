@@ -7,7 +7,9 @@ mod laws;
 mod priced;
 mod sums;
 mod walk;
+mod writing;
 
 pub use audited::{Audited, Tally};
 pub use laws::{lists_are_charged_the_least_value, rules_are_priced_by_classes};
 pub use walk::audit;
+pub use writing::put_list;
