@@ -2,6 +2,7 @@ pub mod Commands
 pub mod Deal
 pub mod Certify
 pub mod Multi
+pub mod Play
 pub mod Check
 pub mod Replay
 pub mod Meter
@@ -11,4 +12,5 @@ pub mod Memory
 pub mod Arguments
 pub mod EveryDeal
 pub mod Replayed
+pub mod Played
 pub mod Losses
