@@ -110,7 +110,7 @@ judged table log valid None none due is =
 judged table log valid (Some b) some due is = inr (record { broken = b; first = first_at table 1 log.start log.events b some; named = sym is })
 
 -- the answer of `replay` to what its input says
-replay_as : (words : List Word) (bytes : List ℕ) (table : PayTable) (log : LogValue) → command_of words ≡ Some (Over Replay) → replay_input bytes ≡ Ok (table, log)
+pub replay_as : (words : List Word) (bytes : List ℕ) (table : PayTable) (log : LogValue) → command_of words ≡ Some (Over Replay) → replay_input bytes ≡ Ok (table, log)
     → answer_read job_text (judged_log table log (break_in table log)) ≡ answer words bytes
 replay_as words bytes table log is says = ap (λ r. answer_read job_text (log_read r)) (sym says) ∙ answer_as words (Some (Over Replay)) bytes is
 
