@@ -14,8 +14,13 @@ use Rattle.vp_rule.specs.declared.rule.Rule.{Rule}
 use Rattle.vp_compile.specs.Rows.{Row, no_row, row_at}
 use Rattle.vp_compile.specs.Matrices.{row_of, rows_of}
 use Rattle.vp_compile.proofs.Places.{rows_are}
+use Rattle.vp_audit.specs.Choices.{BetHand}
 use Rattle.vp_audit.specs.Compiled.{class_at, class_row, pool_rows, rule_cell}
 use Rattle.vp_audit.proofs.ClassRows.{class_is}
+
+-- a hand that is dealt for a bet, by its parts
+pub bet_hand : (h : BetHand) (table : PayTable) (coin : ℕ) (hand : List ℕ) → h.table ≡ table → h.coin ≡ coin → h.hand ≡ hand → h ≡ record { table = table; coin = coin; hand = hand }
+bet_hand h table coin hand t c is = rw (← t, ← c, ← is) refl
 
 -- the classes so far are written: those that are left are the others, by rising index
 pub record Filled (table : PayTable) (coin : ℕ) (rules : List Rule) (left : List (List ℕ)) (place : ℕ) (weights bests nones cells : List ℕ) (first steps : ℕ) : Type 0 where
