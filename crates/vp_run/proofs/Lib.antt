@@ -10,6 +10,7 @@ pub mod ReplayWords
 pub mod Replays
 pub mod MadeLogs
 pub mod Plays
+pub mod CompiledPools
 pub mod Meters
 pub mod GivenWords
 pub mod SomeText

@@ -3,6 +3,7 @@ pub mod Deal
 pub mod Certify
 pub mod Multi
 pub mod Play
+pub mod Compile
 pub mod Check
 pub mod Replay
 pub mod Meter

@@ -6,6 +6,7 @@ mod audit;
 mod certify;
 mod check;
 mod command;
+mod compile;
 mod deal;
 mod job;
 mod laws;
