@@ -10,6 +10,7 @@ pub mod LeastAllowed
 pub mod ListLines
 pub mod Lookups
 pub mod PassedClasses
+pub mod MaskedLists
 pub mod OrderLosses
 pub mod OrderValues
 pub mod PlaceSums
