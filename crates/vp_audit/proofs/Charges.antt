@@ -20,7 +20,7 @@ use Rattle.vp_audit.proofs.KeptValues.{filter_out, greatest_members, least_lower
 use Rattle.vp_audit.proofs.Lookups.{OneOf}
 use Rattle.vp_audit.proofs.SumsMore.{said}
 
-least_members : (f : ℕ → ℕ) (b : ℕ) (xs : List ℕ) → ((m : ℕ) → OneOf xs m → f m ≤ b) → least f xs ≤ b
+pub least_members : (f : ℕ → ℕ) (b : ℕ) (xs : List ℕ) → ((m : ℕ) → OneOf xs m → f m ≤ b) → least f xs ≤ b
 unfolding least
 least_members f b [] all = omega arith
 least_members f b (x ∷ []) all = all x (inl refl)

@@ -23,7 +23,7 @@ unfolding deciding masks some_below
 deciding_is table rules hand = refl
 
 -- where no number passes, none is left
-any_filter : (p : ℕ → Bool) (xs : List ℕ) → filter p xs ≡ [] → list_any p xs ≡ false
+pub any_filter : (p : ℕ → Bool) (xs : List ℕ) → filter p xs ≡ [] → list_any p xs ≡ false
 any_filter p [] none = refl
 any_filter p (x ∷ xs) none = elim (cases_Bool (p x)) [
   | inl hit ↦ absurd (let some : filter p (x ∷ xs) ≡ x ∷ filter p xs = rw hit refl in cc)

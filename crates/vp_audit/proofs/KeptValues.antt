@@ -120,7 +120,7 @@ some_mask q (x ∷ xs) is = elim (cases_Bool (q x)) [
       record { at = r.at; member = inr r.member; hit = r.hit }
 ]
 
-any_in : (p : ℕ → Bool) (xs : List ℕ) (m : ℕ) → p m ≡ true → OneOf xs m → list_any p xs ≡ true
+pub any_in : (p : ℕ → Bool) (xs : List ℕ) (m : ℕ) → p m ≡ true → OneOf xs m → list_any p xs ≡ true
 any_in p [] m pm one = absurd one
 any_in p (x ∷ xs) m pm (inl e) = let here : p x ≡ true = ap p (sym e) ∙ pm in rw here refl
 any_in p (x ∷ xs) m pm (inr one) = let more = any_in p xs m pm one in elim (cases_Bool (p x)) [ inl px ↦ rw px refl | inr px ↦ rw px more ]

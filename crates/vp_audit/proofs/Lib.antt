@@ -1,10 +1,16 @@
 pub mod Bounds
 pub mod Charges
+pub mod ClassRows
+pub mod CompiledLists
 pub mod Decisions
 pub mod Extremes
+pub mod Filled
 pub mod KeptValues
 pub mod LeastAllowed
 pub mod Lookups
+pub mod OrderLosses
+pub mod OrderValues
+pub mod PlaceSums
 pub mod SoFar
 pub mod Start
 pub mod SumsMore

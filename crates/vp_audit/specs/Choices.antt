@@ -1,7 +1,11 @@
 -- The holds of a hand, with their values.
 use Rattle.std.specs.Prelude.{◌≡◌, ℕ, Bool, true, false, List, [], ◌∷◌, max, min}
 use Rattle.vp_pay.specs.declared.table.PayTable.{PayTable}
-use Rattle.vp_audit.specs.Values.{least}
+use Rattle.vp_rank.specs.Bounded.{some_below}
+use Rattle.vp_draws.specs.Draws.{greatest, value}
+use Rattle.vp_rule.specs.Holds.{matches}
+use Rattle.vp_rule.specs.declared.rule.Rule.{Rule}
+use Rattle.vp_audit.specs.Values.{least, matched}
 
 -- a hand that is dealt for a bet on a table
 pub record BetHand : Type 0 where
@@ -17,6 +21,18 @@ empty = 18446744073709551615
 abbrev pub least_or_empty : (ℕ → ℕ) → List ℕ → ℕ
 least_or_empty f [] = empty
 least_or_empty f (mask ∷ masks) = least f (mask ∷ masks)
+
+-- the least value of the holds that a rule matches
+abbrev pub least_matched : BetHand → Rule → ℕ
+least_matched h rule = least_or_empty (value h.table h.coin h.hand) (matched h.table rule h.hand)
+
+-- the greatest value of the holds that a rule matches
+abbrev pub greatest_matched : BetHand → Rule → ℕ
+greatest_matched h rule = greatest (value h.table h.coin h.hand) (matched h.table rule h.hand)
+
+-- the rule matches some hold
+abbrev pub matches_some : PayTable → List ℕ → Rule → Bool
+matches_some table hand rule = some_below 32 (λ mask. matches table rule hand mask)
 
 -- the least and the greatest of some numbers, with one number more where it counts
 abbrev pub widened : ℕ × ℕ → Bool → ℕ → ℕ × ℕ

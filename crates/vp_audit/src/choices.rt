@@ -1,11 +1,12 @@
 //! The 32 holds of a hand with their values, and what rules and exceptions make of them.
 
-ghost use Rattle.std.specs.Prelude.{◌≡◌, ◌+◌, ◌<◌, ◌≤◌, IfSome, None, length, max, position, true};
+ghost use Rattle.std.specs.Prelude.{◌≡◌, ◌+◌, ◌<◌, ◌≤◌, IfSome, None, length, map, max, position, true};
 ghost use Rattle.vp_card.specs.Cards.{in_deck};
 ghost use Rattle.vp_rank.specs.Bounded.{some_below};
 ghost use Rattle.vp_draws.specs.Draws.{best, greatest, value};
 ghost use Rattle.vp_rule.specs.Holds.{matches};
-ghost use Rattle.vp_audit.specs.Choices.{least_or_empty, widened};
+ghost use Rattle.vp_audit.specs.Choices.{greatest_matched, least_matched, matches_some, widened};
+ghost use Rattle.vp_audit.specs.Compiled.{rule_cell};
 ghost use Rattle.vp_audit.specs.Sums.{priced};
 ghost use Rattle.vp_audit.specs.Values.{deciding, matched};
 
@@ -115,8 +116,8 @@ impl<'a> Choices<'a> {
 
     /// The least and the greatest value of the holds that the rule matches; the greatest number and 0 where it matches none.
     fn extremes(&self, rule: &Rule) -> (u64, u64)
-        ensures least { result.0 ≡ least_or_empty (value self.now.table self.now.coin self.now.hand) (matched self.now.table rule.now self.now.hand) }
-        ensures greatest { result.1 ≡ greatest (value self.now.table self.now.coin self.now.hand) (matched self.now.table rule.now self.now.hand) }
+        ensures least { result.0 ≡ least_matched self.now rule.now }
+        ensures greatest { result.1 ≡ greatest_matched self.now rule.now }
     {
         let mut extremes = (u64::MAX, 0);
         for mask in 0..32u8 {
@@ -126,8 +127,25 @@ impl<'a> Choices<'a> {
         extremes
     }
 
+    /// Writes what each rule gives the hand.
+    pub(crate) fn fill_cells(&self, rules: &[Rule], cells: &mut [u64])
+        requires { length cells.old ≡ length rules.now }
+        ensures { cells.new ≡ map (rule_cell self.now.table self.now.coin self.now.hand) rules.now }
+    {
+        for (place, rule) in rules.iter().enumerate() {
+            cells[place] = self.cell(rule);
+        }
+    }
+
+    /// What the rule gives the hand: the least value of the holds that it matches; the greatest number where it matches none.
+    fn cell(&self, rule: &Rule) -> u64
+        ensures { result ≡ rule_cell self.now.table self.now.coin self.now.hand rule.now }
+    {
+        self.extremes(rule).0
+    }
+
     /// The greatest of the values.
-    fn best(&self) -> u64
+    pub(crate) fn best(&self) -> u64
         ensures { result ≡ best self.now.table self.now.coin self.now.hand }
     {
         let mut best = 0;
@@ -138,7 +156,7 @@ impl<'a> Choices<'a> {
     }
 
     /// The value of the hold `mask`.
-    fn value(&self, mask: u8) -> u64
+    pub(crate) fn value(&self, mask: u8) -> u64
         requires { mask < 32 }
         ensures { result ≡ value self.now.table self.now.coin self.now.hand mask }
     {
@@ -148,7 +166,7 @@ impl<'a> Choices<'a> {
 
 /// The place of the first rule that matches some of the holds.
 fn first_matching(holds: &Holds, rules: &[Rule]) -> Option<usize>
-    ensures place { result ≡ position (λ rule. some_below 32 (λ mask. matches holds.now.table rule holds.now.hand mask)) rules.now }
+    ensures place { result ≡ position (matches_some holds.now.table holds.now.hand) rules.now }
     ensures inside { IfSome result (λ i. i < length rules.now) }
 {
     rules.iter().position(|rule| holds.some_is_matched(rule))

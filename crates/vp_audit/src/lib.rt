@@ -3,11 +3,13 @@
 
 mod audited;
 mod choices;
+mod filling;
 mod laws;
 mod priced;
 mod sums;
 mod walk;
 
 pub use audited::{Audited, Tally};
-pub use laws::{lists_are_charged_the_least_value, rules_are_priced_by_classes};
+pub use filling::fill_matrix;
+pub use laws::{compiled_lists_are_lists, lists_are_charged_the_least_value, orders_lose_as_lists, rules_are_priced_by_classes};
 pub use walk::audit;
