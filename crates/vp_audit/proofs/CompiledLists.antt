@@ -43,8 +43,8 @@ classes_rise n i j h l =
 module _ (table : PayTable) (coin : ℕ) (pool : RulePool) (known : IsPool table pool) (order places : List ℕ) (whole : IsOrder (length pool.rules) order) (some : ArePlaces (length (representatives table.deck)) places) where
   exceptions_are : All (IsException table.deck) (map (best_exception table coin) places)
   exceptions_are = All-map (IsException table.deck) (best_exception table coin) places (All-weaker (λ place. place < length (representatives table.deck)) (λ place. IsException table.deck (best_exception table coin place)) (λ place l.
-    let class = class_is table.deck place l in
-    record { deal = class.0; representative = class.1; mask = least_best_small table coin (class_at table.deck place) }) places some.below)
+      let class = class_is table.deck place l in
+      record { deal = class.0; representative = class.1; mask = least_best_small table coin (class_at table.deck place) }) places some.below)
 
   index_at : (k : ℕ) → k < length places → get_or (map (λ (e : Exception). set_index e.0) (map (best_exception table coin) places)) k 0 ≡ set_index (class_at table.deck (get_or places k 0))
   index_at k l =

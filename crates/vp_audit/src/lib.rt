@@ -11,5 +11,11 @@ mod walk;
 
 pub use audited::{Audited, Tally};
 pub use filling::fill_matrix;
-pub use laws::{compiled_lists_are_lists, lists_are_charged_the_least_value, orders_lose_as_lists, rules_are_priced_by_classes};
+pub use laws::{
+    compiled_lists_are_lists, lists_are_charged_the_least_value, orders_lose_as_lists,
+    rules_are_priced_by_classes,
+};
 pub use walk::audit;
+
+#[cfg(test)]
+mod tests;

@@ -6,7 +6,7 @@ use Rattle.vp_suit.specs.Classes.{representatives}
 use Rattle.vp_audit.specs.Sums.{HasRoom}
 use Rattle.vp_audit.specs.declared.priced.Decided.{Decided}
 use Rattle.vp_audit.proofs.Bounds.{ambiguous_small, has_room, optimum_small}
-use Rattle.vp_audit.proofs.SoFar.{decided_in, end, next, next_by, next_hand, next_le, next_mask, priced_at}
+use Rattle.vp_audit.proofs.SoFar.{decided_in, end, next, next_by, next_deal, next_le, next_mask, priced_at}
 use Rattle.vp_audit.proofs.SumsMore.{InList}
 use Rattle.vp_audit.proofs.Start.{start}
 use Rattle.vp_audit.proofs.walk.walk.Goals as goal
@@ -21,8 +21,8 @@ loop-class-init g c = record {
 
 pub of-choices-requires : goal.of-choices-requires
 of-choices-requires g c = record {
-  cards =
-      next_hand c.args.game.now.table c.args.game.now.coin c.args.list.now c.table.ensures.rules.known_deck.0
+  deal =
+      next_deal c.args.game.now.table c.args.game.now.coin c.args.list.now c.table.ensures.rules.known_deck.0
       c.in-Some.class.hand _ _ _ _ _ _ _ c.in-Some.ensures.given c.loop-class.invariant.so_far;
 }
 
