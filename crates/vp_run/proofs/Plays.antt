@@ -47,7 +47,7 @@ file_spells p is =
     ∙ ap (λ x. table_text p.table ++ x) (spelled_whole (feed_of (written (log_text log))) log (log_stands p (feed_of (written (log_text log))) is refl))
 
 file_says : (p : Played) → IsPlayed p → replay_input (log_file p) ≡ Ok (p.table, log_of p)
-file_says p is = (inputs_read.spelled (log_file p) (p.table, log_of p)).1 (log_of p, ((is.bet.rules, (log_accepted p is).grammar), tt, file_spells p is), refl)
+file_says p is = (inputs_read.spelled (log_file p) (p.table, log_of p)).1 (log_of p, ((is.bet.rules, (log_accepted p is).grammar), refl, file_spells p is), refl)
 
 file_short : (p : Played) → IsPlayed p → length (log_file p) ≤ 67108864
 file_short p is =
