@@ -208,7 +208,7 @@ written-append : (a b : Text) → length (written (a ++ b)) ≡ length (written 
 written-append a b = ap length (flat_map-append line_of a b) ∙ length-append (written a) (written b)
 
 -- a table has at most 37 lines
-short_table : (t : PayTable) → IsTable t → length (written (table_text t)) ≤ 11100
+pub short_table : (t : PayTable) → IsTable t → length (written (table_text t)) ≤ 11100
 unfolding table_text
 short_table t is =
     let lines = map (pay_line_words t.coins) t.lines.items in

@@ -98,6 +98,6 @@ accepted table coin seed games is few =
       count = count;
       grammar = grammar;
       read = read_as table log is.rules grammar;
-      fits = log_width table.deck log grammar (omega (arith, count));
+      fits = omega (arith, log_width table.deck log grammar (omega (arith, count)));
       lawful = generated_lawful table coin seed games is;
     }

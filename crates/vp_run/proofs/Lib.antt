@@ -3,10 +3,13 @@ pub mod NoCommand
 pub mod PrintedLosses
 pub mod CommandWords
 pub mod CheckInputs
+pub mod FittingBets
 pub mod EveryDeals
 pub mod CheckedInParts
 pub mod ReplayWords
 pub mod Replays
+pub mod MadeLogs
+pub mod Plays
 pub mod Meters
 pub mod GivenWords
 pub mod SomeText

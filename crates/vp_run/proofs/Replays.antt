@@ -1,11 +1,10 @@
 -- What `replay` answers to a pay table and a log.
-use Rattle.std.proofs.Common.{◌≡◌, ℕ, ◌+◌, List, [], ◌∷◌, ◌++◌, length, refl, sym, ap, subst, ◌∙◌, arith, inl, inr, Option, Some, None}
+use Rattle.std.proofs.Common.{◌≡◌, ℕ, ◌+◌, List, [], ◌∷◌, refl, sym, ap, subst, ◌∙◌, arith, inl, inr, Option, Some, None}
 use Rattle.std.specs.Prelude.{Ok, Err, Result, ◌⊎◌}
 use Rattle.std.specs.List.{AllByRecursion}
 use Rattle.vp_text.specs.Lines.{Feed, Word}
-use Rattle.vp_text.specs.Reading.{◌>>=◌, mapped}
+use Rattle.vp_text.specs.Reading.{◌>>=◌}
 use Rattle.vp_text.specs.ExactReaders.{Exact}
-use Rattle.vp_text.specs.Written.{written}
 use Rattle.vp_text.proofs.Pieces.{same_value}
 use Rattle.vp_pay.specs.Table.{IsTable}
 use Rattle.vp_pay.specs.declared.table.PayTable.{PayTable}
@@ -110,7 +109,7 @@ judged table log valid None none due is =
 judged table log valid (Some b) some due is = inr (record { broken = b; first = first_at table 1 log.start log.events b some; named = sym is })
 
 -- the answer of `replay` to what its input says
-replay_as : (words : List Word) (bytes : List ℕ) (table : PayTable) (log : LogValue) → command_of words ≡ Some (Over Replay) → replay_input bytes ≡ Ok (table, log)
+pub replay_as : (words : List Word) (bytes : List ℕ) (table : PayTable) (log : LogValue) → command_of words ≡ Some (Over Replay) → replay_input bytes ≡ Ok (table, log)
     → answer_read job_text (judged_log table log (break_in table log)) ≡ answer words bytes
 replay_as words bytes table log is says = ap (λ r. answer_read job_text (log_read r)) (sym says) ∙ answer_as words (Some (Over Replay)) bytes is
 

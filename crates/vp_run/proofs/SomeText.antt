@@ -20,7 +20,7 @@ use Rattle.vp_run.specs.Commands.{command_of}
 use Rattle.vp_run.specs.declared.command.Command.{Command}
 use Rattle.vp_run.specs.declared.command.Command.TheVariants.{Over, Tables}
 use Rattle.vp_run.specs.declared.job.Job.{Job}
-use Rattle.vp_run.specs.declared.job.Job.TheVariants.{Certify, Checked, Deal, Replay, Meter, Audit, Multi}
+use Rattle.vp_run.specs.declared.job.Job.TheVariants.{Certify, Checked, Deal, Replay, Meter, Audit, Multi, Play}
 
 front_some : (front back : List ℕ) → 0 < length front → 0 < length (front ++ back)
 front_some front back some = omega (arith, length-append front back)
@@ -38,6 +38,7 @@ job_some (Checked c) = omega arith
 job_some (Replay l) = behind_some (cost_lines l.table true 1 l.log.events) (summary_lines l.table.deck (summary_of l.table l.log)) (omega arith)
 job_some (Meter r) = omega arith
 job_some (Multi d) = omega arith
+job_some (Play p) = omega arith
 
 read_some : (read : Result Job Stop) → 0 < length (answer_read job_text read).text
 unfolding finding_words

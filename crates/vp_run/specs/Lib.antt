@@ -2,6 +2,7 @@ pub mod Commands
 pub mod Deal
 pub mod Certify
 pub mod Multi
+pub mod Play
 pub mod Check
 pub mod Replay
 pub mod Meter
@@ -12,4 +13,5 @@ pub mod Arguments
 pub mod EveryDeal
 pub mod CheckedInParts
 pub mod Replayed
+pub mod Played
 pub mod Losses

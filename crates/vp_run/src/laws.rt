@@ -11,6 +11,8 @@ ghost use Rattle.vp_run.specs.CheckedInParts.{PartsTellEveryDeal, PartsTellWalke
 ghost use Rattle.vp_run.specs.EveryDeal.{CertificatesAreChecked, CertificatesTellEveryDeal, ChecksTellEveryDeal, ChecksTellWalkedDeals, DealsPrintBestHolds, MetersAreTold};
 ghost use Rattle.vp_run.specs.Meter.{MeterInputsAreRead};
 ghost use Rattle.vp_run.specs.Multi.{MultiInputsAreRead};
+ghost use Rattle.vp_run.specs.Play.{PlayInputsAreRead};
+ghost use Rattle.vp_run.specs.Played.{PlaysAreReplayed};
 ghost use Rattle.vp_run.specs.Losses.{AuditsPrintLosses};
 
 /// Words are a command exactly where they spell it: its name, and its numbers in decimal digits, each in its range.
@@ -47,6 +49,12 @@ pub fn multi_inputs_are_read()
     ensures { MultiInputsAreRead }
 {}
 
+/// What `play` takes for its input is what the lines of the input spell: a valid pay table that has the bet, and nothing
+/// else. Every other input is refused, exactly at its refused line.
+pub fn play_inputs_are_read()
+    ensures { PlayInputsAreRead }
+{}
+
 /// What `check` takes for its input is what the lines of the input spell: a certificate in the grammar, and nothing else.
 /// It is answered by its first broken rule, where there is one. Every other input is refused, exactly at its refused line.
 pub fn check_inputs_are_read()
@@ -68,6 +76,13 @@ pub fn replay_inputs_are_read()
 /// that stands there and the number due.
 pub fn replays_tell_costs()
     ensures { ReplaysTellCosts }
+{}
+
+/// The answer of `play` to each pay table that it takes prints the numbers of a log that is in the grammar of logs and
+/// breaks no law: what is written of the pay table and that log is an input of `replay`, whose answer is the lines of the
+/// costs, and behind them the same six lines.
+pub fn plays_are_replayed()
+    ensures { PlaysAreReplayed }
 {}
 
 /// The answer of `deal` to each pay table and deal that it takes are four lines that print a best hold: its mask is one of

@@ -7,6 +7,7 @@ mod deal;
 mod faults;
 mod meter;
 mod multi;
+mod play;
 mod replay;
 mod tables;
 mod words;
