@@ -9,7 +9,7 @@ use Rattle.vp_text.specs.Pieces.{◌>>=◌}
 use Rattle.vp_text.proofs.Numbers.{number_exact, number_within_exact}
 use Rattle.vp_pay.specs.Names.{is_name}
 use Rattle.vp_text.proofs.Pieces.{bound, chosen}
-use Rattle.vp_run.specs.Commands.{AreInRange, CommandsAreSpelled, InRange, alone, bet, check, coin_of, command_of, command_words, lines_of, meter, meter_of, task_of, task_words, hands_of, multi, play, play_of, compile, compile_of}
+use Rattle.vp_run.specs.Commands.{AreInRange, CommandsAreSpelled, InRange, alone, bet, check, coin_of, command_of, command_words, meter, task_of, task_words, multi, play, compile}
 use Rattle.vp_run.specs.declared.command.Command.{Command}
 use Rattle.vp_run.specs.declared.command.Command.TheVariants.{Over, Tables}
 use Rattle.vp_run.specs.declared.command.Task.{Task}

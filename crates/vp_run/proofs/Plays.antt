@@ -1,12 +1,11 @@
 -- What `play` answers to a pay table, and what `replay` answers to that table and the log that is made.
-use Rattle.std.proofs.Common.{◌≡◌, ℕ, ◌≤◌, List, [], ◌++◌, length, refl, sym, ap, ◌∙◌, arith, append-nil, length-append, Option, Some}
+use Rattle.std.proofs.Common.{◌≡◌, ℕ, ◌≤◌, List, ◌++◌, length, refl, sym, ap, ◌∙◌, arith, append-nil, length-append, Option, Some}
 use Rattle.std.specs.Prelude.{Ok}
 use Rattle.std.proofs.lemmas.Grind.{flat_map-append}
 use Rattle.vp_text.specs.Lines.{Feed, Word, WordLine, feed_of}
 use Rattle.vp_text.specs.Sections.{text_of}
 use Rattle.vp_text.specs.Written.{line_of, written}
 use Rattle.vp_text.proofs.Writing.{written_read}
-use Rattle.vp_pay.specs.Bets.{IsBet}
 use Rattle.vp_pay.specs.Spelling.{table_text}
 use Rattle.vp_pay.specs.declared.table.PayTable.{PayTable}
 use Rattle.vp_pay.proofs.Plain.{plain_table}
@@ -24,7 +23,7 @@ use Rattle.vp_run.specs.Play.{IsPlayed, Played, log_of, play_input, play_lines}
 use Rattle.vp_run.specs.Played.{IsReplayed, PlaysAreReplayed, log_file}
 use Rattle.vp_run.specs.Replay.{replay_input}
 use Rattle.vp_run.specs.declared.command.Command.TheVariants.{Over}
-use Rattle.vp_run.specs.declared.command.Task.TheVariants.{Play, Replay}
+use Rattle.vp_run.specs.declared.command.Task.TheVariants.{Play}
 use Rattle.vp_run.proofs.CommandWords.{in_range}
 use Rattle.vp_run.proofs.FittingBets.{bet_fits}
 use Rattle.vp_run.proofs.MadeLogs.{StandsAlone, log_accepted, log_stands}
@@ -47,7 +46,7 @@ file_spells p is =
     ∙ ap (λ x. table_text p.table ++ x) (spelled_whole (feed_of (written (log_text log))) log (log_stands p (feed_of (written (log_text log))) is refl))
 
 file_says : (p : Played) → IsPlayed p → replay_input (log_file p) ≡ Ok (p.table, log_of p)
-file_says p is = (inputs_read.spelled (log_file p) (p.table, log_of p)).1 (log_of p, ((is.bet.rules, (log_accepted p is).grammar), tt, file_spells p is), refl)
+file_says p is = (inputs_read.spelled (log_file p) (p.table, log_of p)).1 (log_of p, ((is.bet.rules, (log_accepted p is).grammar), refl, file_spells p is), refl)
 
 file_short : (p : Played) → IsPlayed p → length (log_file p) ≤ 67108864
 file_short p is =

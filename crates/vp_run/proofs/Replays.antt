@@ -1,11 +1,10 @@
 -- What `replay` answers to a pay table and a log.
-use Rattle.std.proofs.Common.{◌≡◌, ℕ, ◌+◌, List, [], ◌∷◌, ◌++◌, length, refl, sym, ap, subst, ◌∙◌, arith, inl, inr, Option, Some, None}
+use Rattle.std.proofs.Common.{◌≡◌, ℕ, ◌+◌, List, [], ◌∷◌, refl, sym, ap, subst, ◌∙◌, arith, inl, inr, Option, Some, None}
 use Rattle.std.specs.Prelude.{Ok, Err, Result, ◌⊎◌}
 use Rattle.std.specs.List.{AllByRecursion}
 use Rattle.vp_text.specs.Lines.{Feed, Word}
-use Rattle.vp_text.specs.Reading.{◌>>=◌, mapped}
+use Rattle.vp_text.specs.Reading.{◌>>=◌}
 use Rattle.vp_text.specs.ExactReaders.{Exact}
-use Rattle.vp_text.specs.Written.{written}
 use Rattle.vp_text.proofs.Pieces.{same_value}
 use Rattle.vp_pay.specs.Table.{IsTable}
 use Rattle.vp_pay.specs.declared.table.PayTable.{PayTable}
