@@ -41,15 +41,17 @@ data Alike (n : ℕ) (one other : ℕ → ℕ) (cards : List ℕ) : Option ℕ �
 abbrev given : ℕ → (ℕ → ℕ) → List ℕ → List ℕ → Option ℕ
 given n mask cards places = option_map (λ (e : Exception). e.1) (find (λ (e : Exception). set_index e.0 == set_index cards) (map (masked_exception n mask) places))
 
+-- the same where the first of the places is of the class or not
+abbrev first_given : Bool → ℕ → (ℕ → ℕ) → List ℕ → ℕ → List ℕ → Option ℕ
+first_given here n mask cards place places = option_map (λ (e : Exception). e.1) (cond here (Some (masked_exception n mask place)) (find (λ (e : Exception). set_index e.0 == set_index cards) (map (masked_exception n mask) places)))
+
 alike : (n : ℕ) (one other : ℕ → ℕ) (cards places : List ℕ) → All (λ place. place < length (representatives n)) places → Alike n one other cards (given n one cards places) (given n other cards places)
 alike n one other cards [] all = neither
 alike n one other cards (place ∷ places) all =
     at (set_index (class_at n place) == set_index cards) refl (alike n one other cards places (All-tail (λ place. place < length (representatives n)) place places all))
   where
-    abbrev head : (ℕ → ℕ) → Bool → Option ℕ
-    head mask b = option_map (λ (e : Exception). e.1) (cond b (Some (masked_exception n mask place)) (find (λ (e : Exception). set_index e.0 == set_index cards) (map (masked_exception n mask) places)))
-
-    at : (b : Bool) → (set_index (class_at n place) == set_index cards) ≡ b → Alike n one other cards (given n one cards places) (given n other cards places) → Alike n one other cards (head one b) (head other b)
+    at : (b : Bool) → (set_index (class_at n place) == set_index cards) ≡ b → Alike n one other cards (given n one cards places) (given n other cards places)
+        → Alike n one other cards (first_given b n one cards place places) (first_given b n other cards place places)
     at true is more = both place (All-head (λ place. place < length (representatives n)) place places all) (eqb-true _ _ is)
     at false is more = more
 

@@ -15,4 +15,5 @@ pub mod EveryDeal
 pub mod CheckedInParts
 pub mod Replayed
 pub mod Played
+pub mod PrintedLists
 pub mod Losses
