@@ -11,6 +11,7 @@ pub mod Lookups
 pub mod OrderLosses
 pub mod OrderValues
 pub mod PlaceSums
+pub mod Shares
 pub mod Sizes
 pub mod SoFar
 pub mod Start

@@ -43,7 +43,7 @@ pub fn cost(games: &Games, event: &Event) -> u64
     requires lawful { IsLawfulEvent games.now event.now }
     requires deck { is_of_deck games.now.deck event.now ≡ true }
     ensures value { result ≡ cost_of games.now event.now }
-    // No hold of the deal is worth more than the held cards and the cost together.
+    // No hold of the deal is worth more than the held cards and the cost together, and values are mean payments.
     ensures cost { IsCost games.now event.now result }
 {
     let game = games.game(event.bet);

@@ -21,15 +21,10 @@ pub use arguments::run;
 pub use laws::{
     audit_inputs_are_read, audits_print_losses, certificates_are_checked,
     certificates_tell_every_deal, certify_inputs_are_read, check_inputs_are_read,
-<<<<<<< HEAD
     checks_in_parts_tell_every_deal, commands_are_spelled, deal_inputs_are_read,
     deals_print_best_holds, meter_inputs_are_read, meters_are_told, multi_inputs_are_read,
-    replay_inputs_are_read, replays_tell_costs, usage_is_for_no_command,
-=======
-    commands_are_spelled, deal_inputs_are_read, deals_print_best_holds, meter_inputs_are_read,
-    meters_are_told, multi_inputs_are_read, play_inputs_are_read, plays_are_replayed, replay_inputs_are_read, replays_tell_costs,
+    play_inputs_are_read, plays_are_replayed, replay_inputs_are_read, replays_tell_costs,
     usage_is_for_no_command,
->>>>>>> cfdc44b49497af09e1d4419a0fb705cf3d8875df
 };
 pub use serve::{region_words, served};
 pub use top::{vpoker, vpoker_in_blocks};
