@@ -15,3 +15,4 @@ pub mod CheckedInParts
 pub mod Replayed
 pub mod Played
 pub mod Losses
+pub mod Moments
