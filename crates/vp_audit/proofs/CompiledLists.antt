@@ -1,25 +1,23 @@
 -- Compiled lists are lists.
-use Rattle.std.proofs.Common.{◌≡◌, ℕ, zero, suc, ◌+◌, ◌-◌, ◌<◌, ◌≤◌, List, [], map, length, get_or, refl, sym, ap, subst, ◌∙◌, arith}
+use Rattle.std.proofs.Common.{◌≡◌, ℕ, zero, suc, ◌+◌, ◌-◌, ◌<◌, List, [], map, length, get_or, sym, ap, subst, ◌∙◌, arith}
 use Rattle.std.specs.List.{All}
 use Rattle.std.specs.List.Sorted.{IsStrictlyIncreasing}
 use Rattle.std.proofs.lemmas.List.{get_or-map, length-map}
 use Rattle.std.proofs.lemmas.List.Elements.{All-get_or, All-map, All-weaker}
-use Rattle.vp_card.specs.Rising.{IsRising}
 use Rattle.vp_card.proofs.Rising.{rising_from}
 use Rattle.vp_sets.specs.Index.{set_index}
 use Rattle.vp_suit.specs.Classes.{representatives}
 use Rattle.vp_suit.proofs.ClassLaws.{representatives_rise}
 use Rattle.vp_pay.specs.declared.table.PayTable.{PayTable}
-use Rattle.vp_draws.specs.Draws.{least_best}
 use Rattle.vp_draws.proofs.Chosen.{least_best_small}
 use Rattle.vp_rule.specs.Lists.{Exception, RulePool}
 use Rattle.vp_rule.specs.Valid.{IsException, IsList, IsPool, IsRule}
 use Rattle.vp_compile.specs.Excepted.{ArePlaces}
 use Rattle.vp_compile.specs.Matrices.{IsOrder}
 use Rattle.vp_compile.proofs.OrderLaws.{order_below, order_length}
-use Rattle.vp_audit.specs.Compiled.{best_exception, class_at, compiled_list, ordered}
+use Rattle.vp_audit.specs.Compiled.{best_exception, class_at, compiled_list}
 use Rattle.vp_audit.specs.Values.{no_rule}
-use Rattle.vp_audit.proofs.ClassRows.{IsClass, class_is}
+use Rattle.vp_audit.proofs.ClassRows.{class_is}
 
 -- numbers that rise from each to the next rise from each to each later one
 rise_far : (xs : List ℕ) → IsStrictlyIncreasing xs → (i n : ℕ) → i + n + 1 < length xs → get_or xs i 0 < get_or xs (i + n + 1) 0

@@ -1,15 +1,15 @@
 -- Classes are written into a matrix one after another, by their places.
-use Rattle.std.proofs.Common.{◌≡◌, ℕ, suc, ◌+◌, ◌*◌, ◌-◌, ◌<◌, ◌≤◌, List, [], ◌∷◌, map, length, get_or, set, take, drop, slice_range, refl, sym, ap, subst, ◌∙◌, arith, true, inl, inr}
+use Rattle.std.proofs.Common.{◌≡◌, ℕ, ◌+◌, ◌*◌, ◌<◌, ◌≤◌, List, [], ◌∷◌, map, length, get_or, set, drop, slice_range, refl, sym, ap, subst, ◌∙◌, arith, inl, inr}
 use borrow.Rule.Slice.PartMut.{put_mid}
 use Rattle.std.proofs.lemmas.Bool.{cases_lt}
 use Rattle.std.proofs.lemmas.Nat.{rows}
-use Rattle.std.proofs.lemmas.List.{drop_all, drop_more, get_or-map, get_or-set_other, get_or-set_same, length-map, take-take}
+use Rattle.std.proofs.lemmas.List.{drop_all, drop_more, get_or-map, get_or-set_other, get_or-set_same, length-map}
 use Rattle.std.proofs.lemmas.Slice.{between_is, between-put_mid, take-put_mid_below}
 use Rattle.vp_suit.specs.Classes.{IsDeal, representatives, weight}
 use Rattle.vp_pay.specs.declared.table.PayTable.{PayTable}
 use Rattle.vp_draws.specs.Draws.{best, value}
 use Rattle.vp_rule.specs.declared.rule.Rule.{Rule}
-use Rattle.vp_compile.specs.Rows.{Row, no_row, row_at}
+use Rattle.vp_compile.specs.Rows.{Row, no_row}
 use Rattle.vp_compile.specs.Matrices.{row_of, rows_of}
 use Rattle.vp_compile.proofs.Places.{rows_are}
 use Rattle.vp_audit.specs.Choices.{BetHand}

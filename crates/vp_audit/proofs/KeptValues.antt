@@ -1,5 +1,5 @@
 -- What decides a deal, and what the list is charged for it, are kept by turns.
-use Rattle.std.proofs.Common.{◌≡◌, ℕ, zero, suc, ◌+◌, ◌<◌, ◌≤◌, Bool, true, false, cond, List, [], ◌∷◌, map, length, refl, sym, ap, subst, ◌∙◌, arith, Some, None, Option, inl, inr, ◌⊎◌}
+use Rattle.std.proofs.Common.{◌≡◌, ℕ, zero, suc, ◌+◌, ◌<◌, ◌≤◌, Bool, true, false, cond, List, [], ◌∷◌, refl, sym, ap, subst, ◌∙◌, arith, Some, None, Option, inl, inr}
 use Rattle.std.proofs.Math.Path.{fun_ext}
 use Rattle.std.specs.Prelude.{◌==◌, ◌||◌, nat_le, position, filter, slice_index_or, option_map, find}
 use Rattle.std.specs.List.{list_any, range_with_len}
@@ -9,7 +9,7 @@ use Rattle.vp_rank.proofs.BoundedTests.{same_tests}
 use Rattle.vp_card.specs.Cards.{held, joined}
 use Rattle.vp_sets.specs.Index.{set_index}
 use Rattle.vp_sets.specs.Sets.{has}
-use Rattle.vp_suit.specs.Classes.{IsDeal, IsKept, representative}
+use Rattle.vp_suit.specs.Classes.{IsDeal, representative}
 use Rattle.vp_suit.specs.Turns.{carried, mask_of, turn}
 use Rattle.vp_suit.proofs.Group.{inverse, inverse_inside}
 use Rattle.vp_suit.proofs.Cards.{turn_back}
@@ -24,9 +24,8 @@ use Rattle.vp_rule.specs.Lists.{Exception, RuleList}
 use Rattle.vp_rule.specs.declared.rule.Rule.{Rule}
 use Rattle.vp_rule.proofs.TurnedRules.{matches_turned}
 use Rattle.vp_audit.specs.Values.{charged, decided, deciding, decision, excepted, greatest_value, least, least_value, matched, no_rule}
-use Rattle.vp_audit.specs.Audits.{is_ambiguous, is_by, lost, only}
+use Rattle.vp_audit.specs.Audits.{lost}
 use Rattle.vp_audit.specs.Laws.{Allows}
-use Rattle.vp_audit.specs.declared.priced.Decided.{Decided}
 use Rattle.vp_audit.proofs.Lookups.{OneOf}
 
 -- ---- members

@@ -1,6 +1,6 @@
 -- A rule whose first test asks for another number of cards matches no hold.
-use Rattle.std.proofs.Common.{◌≡◌, ℕ, ◌<◌, Bool, true, false, List, [], ◌∷◌, length, refl, sym, ap, ◌∙◌, Option, Some, None}
-use Rattle.std.specs.Prelude.{◌==◌, ◌&&◌, count_ones}
+use Rattle.std.proofs.Common.{◌≡◌, ℕ, ◌<◌, false, List, [], ◌∷◌, length, refl, sym, ap, ◌∙◌, Option}
+use Rattle.std.specs.Prelude.{◌==◌, count_ones}
 use Rattle.std.specs.List.{list_all}
 use Rattle.vp_card.specs.Cards.{held}
 use Rattle.vp_count.proofs.HeldMasks.{holds_many}
@@ -8,7 +8,7 @@ use Rattle.vp_pay.specs.declared.table.PayTable.{PayTable}
 use Rattle.vp_rule.specs.Holds.{holds, matches}
 use Rattle.vp_rule.specs.declared.rule.Rule.{Rule}
 use Rattle.vp_rule.specs.declared.rule.Test.{Test}
-use Rattle.vp_rule.specs.declared.rule.Test.TheVariants.{Hold, Wilds, Suited, Mixed, Royal, Windows, Count, Equal, Ranks, Made, Left, LeftSuit}
+use Rattle.vp_rule.specs.declared.rule.Test.TheVariants.{Hold}
 use Rattle.vp_audit.specs.Choices.{asked_size, has_size}
 
 other_size : (table : PayTable) (hand : List ℕ) (mask : ℕ) (tests : List Test) → length hand ≡ 5 → mask < 32 → has_size (asked_size tests) mask ≡ false → list_all (λ test. holds table hand mask test) tests ≡ false

@@ -1,13 +1,13 @@
 //! The 32 holds of a hand with their values, and what rules and exceptions make of them.
 
-ghost use Rattle.std.specs.Prelude.{◌≡◌, ◌+◌, ◌<◌, ◌≤◌, IfSome, None, length, map, max, position, true};
+ghost use Rattle.std.specs.Prelude.{◌≡◌, ◌+◌, ◌<◌, ◌≤◌, IfSome, None, length, map, max, position};
 ghost use Rattle.vp_suit.specs.Classes.{IsDeal};
-ghost use Rattle.vp_draws.specs.Draws.{best, greatest, value};
+ghost use Rattle.vp_draws.specs.Draws.{best, value};
 ghost use Rattle.vp_rule.specs.Holds.{matches};
 ghost use Rattle.vp_audit.specs.Choices.{asked_size, greatest_matched, has_size, least_matched, matches_some, widened};
 ghost use Rattle.vp_audit.specs.Compiled.{rule_cell};
 ghost use Rattle.vp_audit.specs.Sums.{priced};
-ghost use Rattle.vp_audit.specs.Values.{deciding, matched};
+ghost use Rattle.vp_audit.specs.Values.{deciding};
 
 use crate::priced::{Decided, Priced};
 use std::marker::Model;

@@ -1,6 +1,6 @@
 //! The matrix of a pool: what its rules give each class of deals.
 
-ghost use Rattle.std.specs.Prelude.{◌≡◌, ◌+◌, ◌*◌, ◌^◌, ◌<◌, ◌≤◌, length};
+ghost use Rattle.std.specs.Prelude.{◌≡◌, ◌+◌, ◌*◌, ◌≤◌, length};
 ghost use Rattle.vp_suit.specs.Classes.{representatives};
 ghost use Rattle.vp_pay.specs.Table.{IsTable};
 ghost use Rattle.vp_rule.specs.Valid.{IsPool};

@@ -1,11 +1,8 @@
 -- Each class is written behind those before it.
-use Rattle.std.proofs.Common.{◌≡◌, ◌+◌, ◌-◌, ◌*◌, List, ℕ, arith, ap, sym, subst, ◌∙◌, length, map, set}
+use Rattle.std.proofs.Common.{◌≡◌, ◌+◌, ◌-◌, ◌*◌, ℕ, arith, ap, sym, subst, ◌∙◌, length, set}
 use borrow.Rule.Slice.PartMut.{put_mid}
 use Rattle.vp_pay.specs.declared.table.PayTable.{PayTable}
 use Rattle.vp_suit.specs.Classes.{representatives}
-use Rattle.vp_draws.specs.Draws.{best, value}
-use Rattle.vp_audit.specs.Choices.{BetHand}
-use Rattle.vp_audit.specs.Compiled.{rule_cell}
 use Rattle.vp_audit.proofs.Filled.{Filled, HasRoom, deal_here, end, next, start, told_of}
 use Rattle.vp_audit.proofs.filling.fill_rows.Goals as goal
 

@@ -1,9 +1,8 @@
 -- Each class is added behind those before it.
-use Rattle.std.proofs.Common.{List, arith, ap, sym, subst, ◌∙◌, length}
+use Rattle.std.proofs.Common.{List, arith, ap, subst, ◌∙◌, length}
 use Rattle.vp_rule.specs.declared.rule.Rule.{Rule}
 use Rattle.vp_pay.specs.declared.table.PayTable.{PayTable}
 use Rattle.vp_suit.specs.Classes.{representatives}
-use Rattle.vp_audit.specs.Sums.{HasRoom}
 use Rattle.vp_audit.specs.declared.priced.Decided.{Decided}
 use Rattle.vp_audit.proofs.Bounds.{ambiguous_small, has_room, optimum_small}
 use Rattle.vp_audit.proofs.SoFar.{decided_in, end, next, next_by, next_deal, next_le, next_mask, priced_at}

@@ -1,7 +1,5 @@
-use Rattle.std.proofs.Common.{◌≡◌, ◌∙◌, ◌+◌, ℕ, ap, sym, subst, arith, rules}
+use Rattle.std.proofs.Common.{◌+◌, ℕ, sym, subst, arith, rules}
 use Rattle.vp_draws.specs.Draws.{value}
-use Rattle.vp_rule.specs.Holds.{matches}
-use Rattle.vp_audit.specs.Choices.{BetHand}
 use Rattle.vp_audit.proofs.Extremes.{ExtremesOf, extremes_all, extremes_more, no_extremes}
 use Rattle.vp_audit.proofs.choices.Choices.extremes.Goals as goal
 
