@@ -1,6 +1,6 @@
 -- What a list is charged for a deal: where an exception decides it, where a rule does, and where nothing does.
-use Rattle.std.proofs.Common.{◌≡◌, ℕ, ◌≤◌, Bool, true, List, [], ◌∷◌, get_or, refl, sym, ap, subst, ◌∙◌, arith, Some, None}
-use Rattle.std.specs.Prelude.{filter, position}
+use Rattle.std.proofs.Common.{◌≡◌, ℕ, true, List, [], ◌∷◌, get_or, refl, sym, ap, subst, ◌∙◌, arith, Some, None}
+use Rattle.std.specs.Prelude.{filter}
 use Rattle.std.specs.List.{list_any}
 use Rattle.std.proofs.lemmas.List.Quantifiers.{position-Some}
 use Rattle.vp_pay.specs.declared.table.PayTable.{PayTable}
@@ -8,7 +8,7 @@ use Rattle.vp_draws.specs.Draws.{greatest, masks, value}
 use Rattle.vp_rule.specs.Holds.{matches}
 use Rattle.vp_rule.specs.Lists.{RuleList}
 use Rattle.vp_rule.specs.declared.rule.Rule.{Rule}
-use Rattle.vp_audit.specs.Laws.{Allows, ExceptionsChargeTheirHold, IsGreatestAllowed, IsLeastAllowed, NothingChargesHoldingNothing, RulesAllowTheGreatest}
+use Rattle.vp_audit.specs.Laws.{ExceptionsChargeTheirHold, IsGreatestAllowed, IsLeastAllowed, NothingChargesHoldingNothing, RulesAllowTheGreatest}
 use Rattle.vp_audit.specs.Values.{deciding, excepted, greatest_value, least, least_value, matched, no_rule}
 use Rattle.vp_audit.proofs.KeptValues.{greatest_reached, greatest_upper, filter_in, filter_out, least_lower, least_reached, mask_in, mask_small, some_mask}
 use Rattle.vp_audit.proofs.Lookups.{OneOf}

@@ -1,5 +1,5 @@
 -- The least values are at most the best ones, the loss is their difference, and the tallies share out the deals and the loss.
-use Rattle.std.proofs.Common.{◌≡◌, inl, inr, ℕ, zero, suc, ◌+◌, ◌<◌, ◌≤◌, Bool, true, false, List, [], ◌∷◌, map, length, refl, sym, ap, ◌∙◌, arith, subst, Some, None, Option}
+use Rattle.std.proofs.Common.{◌≡◌, inl, inr, ℕ, zero, suc, ◌+◌, ◌<◌, ◌≤◌, Bool, true, false, List, [], ◌∷◌, length, refl, ap, ◌∙◌, arith, subst, Some, None, Option}
 use Rattle.std.specs.Prelude.{◌==◌, IfSome}
 use Rattle.std.specs.List.{range_with_len, sum_by}
 use Rattle.std.proofs.Math.Path.{fun_ext}
@@ -18,7 +18,7 @@ use Rattle.vp_draws.specs.Draws.{best, sum_of_best}
 use Rattle.vp_draws.proofs.Chosen.{value_le_best}
 use Rattle.vp_draws.proofs.TurnedValues.{best_by_classes, best_turned}
 use Rattle.vp_rule.specs.Lists.{RuleList}
-use Rattle.vp_audit.specs.Audits.{audited, deals, is_by, loss, lost, only, shared_deals, shared_loss, tally}
+use Rattle.vp_audit.specs.Audits.{audited, deals, is_by, loss, lost, only, tally}
 use Rattle.vp_audit.specs.Laws.{DealsAreSharedOut, LeastAndLossAreTheBest, LeastIsAtMostTheBest, LossIsSharedOut}
 use Rattle.vp_audit.specs.Sums.{worth}
 use Rattle.vp_audit.specs.Values.{decided, deciding, excepted, least_value, same}

@@ -8,8 +8,7 @@ use Rattle.vp_rule.specs.Lists.{RuleList}
 use Rattle.vp_pay.specs.Bets.{IsBet}
 use Rattle.vp_rule.specs.Valid.{IsList}
 use Rattle.vp_rule.proofs.Inputs.{list_said}
-use Rattle.vp_sets.specs.Sets.{choose}
-use Rattle.vp_audit.specs.Audits.{audited, loss, shared_deals, shared_loss}
+use Rattle.vp_audit.specs.Audits.{audited, loss}
 use Rattle.vp_audit.proofs.LeastAllowed.{by_exception, by_nothing, ruled, ruled_greatest}
 use Rattle.vp_audit.proofs.Shares.{deals_shared, least_at_most, loss_shared, worth_shared}
 use Rattle.vp_answer.specs.Answers.{Answer, answer_read, done}

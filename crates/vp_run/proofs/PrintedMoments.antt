@@ -7,8 +7,8 @@ use Rattle.vp_pay.specs.Table.{IsTable}
 use Rattle.vp_pay.specs.declared.table.PayTable.{PayTable}
 use Rattle.vp_suit.specs.Classes.{IsDeal}
 use Rattle.vp_multi.specs.Moments.{IsPrintedHold}
-use Rattle.vp_multi.specs.Sums.{mean_sum, second_sum}
-use Rattle.vp_multi.proofs.DealMoments.{moments_are_unique, moments_exist}
+use Rattle.vp_multi.specs.Sums.{mean_sum, second_sum, within_sum}
+use Rattle.vp_multi.proofs.DealMoments.{moments_are_unique, moments_exist, within_fits}
 use Rattle.vp_multi.proofs.DeckSums.{variance_has_two_parts}
 use Rattle.vp_multi.proofs.Printed.{has_printed_hold, printed_alike}
 use Rattle.vp_answer.specs.Answers.{Answer, answer_read, done}
@@ -32,12 +32,14 @@ multi_as words coin hands bytes table is says =
 deal_moments : (d : Drawn) (cards : List ℕ) (mask : ℕ) → IsTable d.table → IsDeal d.table.deck cards → IsPrintedHold d.table d.coin cards mask → HasMoments d cards mask
 deal_moments d cards mask known deal hold = record {
   best = (printed_alike d.table d.coin cards mask known deal hold).0;
+  square = (printed_alike d.table d.coin cards mask known deal hold).1;
+  spread = within_fits d.table d.coin cards known deal;
   exist = moments_exist d.table d.coin d.hands cards mask known deal hold;
   unique = λ first second are. moments_are_unique d.table d.coin d.hands cards mask first second known deal hold are;
 }
 
 moments_told : (d : Drawn) (due : Answer) → done (written (multi_lines d)) ≡ due → IsTable d.table → PrintsMoments d due
-unfolding moments_of mean_sum second_sum
+unfolding moments_of mean_sum second_sum within_sum
 moments_told d due is known = record {
   status = ap (λ (a : Answer). a.status) (sym is);
   text = ap (λ (a : Answer). a.text) (sym is);
@@ -45,6 +47,7 @@ moments_told d due is known = record {
   holds = λ cards mask deal hold. deal_moments d cards mask known deal hold;
   mean = refl;
   second = refl;
+  within = refl;
   variance = variance_has_two_parts d.table d.coin d.hands known;
 }
 
