@@ -218,6 +218,21 @@ greatest_upper f [] m one = absurd one
 greatest_upper f (x ∷ xs) m (inl e) = let same : f m ≡ f x = ap f e in grind (arith, nat_tests)
 greatest_upper f (x ∷ xs) m (inr one) = let l = greatest_upper f xs m one in grind (arith, nat_tests)
 
+pub record Topped (f : ℕ → ℕ) (xs : List ℕ) : Type 0 where
+  pub at : ℕ
+  pub member : OneOf xs at
+  pub same : greatest f xs ≡ f at
+
+pub greatest_reached : (f : ℕ → ℕ) (x : ℕ) (xs : List ℕ) → Topped f (x ∷ xs)
+unfolding greatest
+greatest_reached f x [] = record { at = x; member = inl refl; same = grind (arith, nat_tests) }
+greatest_reached f x (y ∷ xs) =
+    let r = greatest_reached f y xs in
+    elim (cases_Bool (nat_le (greatest f (y ∷ xs)) (f x))) [
+      | inl le ↦ record { at = x; member = inl refl; same = grind (arith, nat_tests) }
+      | inr gt ↦ record { at = r.at; member = inr r.member; same = (let e : greatest f (x ∷ y ∷ xs) ≡ greatest f (y ∷ xs) = grind (arith, nat_tests) in e ∙ r.same) }
+    ]
+
 pub greatest_members : (f : ℕ → ℕ) (b : ℕ) (xs : List ℕ) → ((m : ℕ) → OneOf xs m → f m ≤ b) → greatest f xs ≤ b
 unfolding greatest
 greatest_members f b [] all = omega arith

@@ -14,6 +14,7 @@ pub mod MaskedLists
 pub mod OrderLosses
 pub mod OrderValues
 pub mod PlaceSums
+pub mod Shares
 pub mod Sizes
 pub mod SoFar
 pub mod Start

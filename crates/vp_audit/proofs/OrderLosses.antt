@@ -58,7 +58,8 @@ module _ (table : PayTable) (coin : ℕ) (list : RuleList) (big : 52 ≤ table.d
       let low = (priced_le table coin list.rules (excepted list.exceptions cards) cards p (excepted_small table.deck list.exceptions cards valid.exceptions) refl).0 in
       omega (arith, said, low)
 
-  parts : (xs : List (List ℕ)) → All (IsClass table.deck) xs → worth (lost table coin list) xs + worth (least_value table coin list) xs ≡ worth (best table coin) xs
+  -- what is lost on some classes, and the least values, are together the best values
+  pub parts : (xs : List (List ℕ)) → All (IsClass table.deck) xs → worth (lost table coin list) xs + worth (least_value table coin list) xs ≡ worth (best table coin) xs
   unfolding lost
   parts [] all = refl
   parts (x ∷ xs) all =

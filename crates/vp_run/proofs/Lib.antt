@@ -1,6 +1,7 @@
 pub mod AuditLines
 pub mod NoCommand
 pub mod PrintedLosses
+pub mod PrintedMoments
 pub mod CommandWords
 pub mod CheckInputs
 pub mod FittingBets

@@ -1,25 +1,24 @@
 -- The log that is made is read as it is, and its lines are put behind the first one.
-use Rattle.std.proofs.Common.{◌≡◌, ℕ, List, [], ◌∷◌, ◌++◌, false, sym, ap, subst, ◌∙◌}
+use Rattle.std.proofs.Common.{◌≡◌, ℕ, [], ◌∷◌, ◌++◌, sym, ap, subst, ◌∙◌}
 use Rattle.std.specs.Prelude.{codes, Result, Ok}
 use Rattle.std.specs.Fmt.{decimal}
 use Rattle.std.proofs.lemmas.List.Concat.{flat_map-cons}
 use Rattle.vp_text.specs.Lines.{Feed, feed_of}
-use Rattle.vp_text.specs.Sections.{Starts, Text}
+use Rattle.vp_text.specs.Sections.{Starts}
 use Rattle.vp_text.specs.Written.{line_of, written}
 use Rattle.vp_text.specs.declared.refused.Refused.{Refused}
-use Rattle.vp_pay.specs.declared.table.PayTable.{PayTable}
 use Rattle.vp_loggram.specs.Logs.{IsLog, LogValue}
 use Rattle.vp_loggram.specs.Spelling.{log_text}
 use Rattle.vp_loggram.proofs.Logs_grammar.{Exact-log}
-use Rattle.vp_replay.specs.Summaries.{cost_lines, summary_lines, summary_of}
-use Rattle.vp_replay.proofs.Telling.{no_costs}
+use Rattle.vp_replay.specs.Summaries.{summary_lines}
+use Rattle.vp_replay.specs.declared.summary.Summary.{Summary}
 use Rattle.vp_gen.specs.Promises.{IsAccepted}
 use Rattle.vp_gen.proofs.Accepted.{accepted}
-use Rattle.vp_run.specs.Play.{IsPlayed, Played, log_of, play_lines, played_lines}
+use Rattle.vp_run.specs.Play.{IsPlayed, Played, log_of, played_lines}
 
 -- ---- the log
 
-pub log_accepted : (p : Played) → IsPlayed p → IsAccepted p.table p.games (log_of p)
+pub log_accepted : (p : Played) → IsPlayed p → IsAccepted p.table p.coin p.games (log_of p)
 log_accepted p is = accepted p.table p.coin p.seed p.games is.bet is.most
 
 -- the log stands in front of the lines of its text, and no line is left
@@ -43,17 +42,6 @@ takes_log p n before after result is same deck takes =
 
 -- ---- the lines
 
--- the lines of a log that is the one that was made
-pub played_as : (p i : Played) (table : PayTable) (log : LogValue) → i ≡ p → table ≡ i.table → log ≡ log_of p → written (played_lines table i.seed i.games log) ≡ written (play_lines p)
-played_as p i table log same is read =
-    ap (λ (t : PayTable). written (played_lines t i.seed i.games log)) is ∙ ap (λ (l : LogValue). written (played_lines i.table i.seed i.games l)) read
-    ∙ ap (λ (q : Played). written (played_lines q.table q.seed q.games (log_of p))) same
-
--- the first line, no lines of costs, and those of the numbers
-pub played_text : (table : PayTable) (seed games : ℕ) (log : LogValue) → written (played_lines table seed games log)
-    ≡ line_of (codes "play" ∷ decimal seed ∷ decimal games ∷ []) ++ (written (cost_lines table false 1 log.events) ++ written (summary_lines table.deck (summary_of table log)))
-played_text table seed games log =
-    let first = codes "play" ∷ decimal seed ∷ decimal games ∷ [] in
-    let lines : Text = summary_lines table.deck (summary_of table log) in
-    let none : written (cost_lines table false 1 log.events) ≡ [] = ap (λ (t : Text). written t) (no_costs table 1 log.events) in
-    flat_map-cons line_of first lines ∙ ap (λ (bytes : List ℕ). line_of first ++ (bytes ++ written lines)) (sym none)
+-- the first line, and those of the numbers
+pub played_text : (n seed games : ℕ) (s : Summary) → written (played_lines n seed games s) ≡ line_of (codes "play" ∷ decimal seed ∷ decimal games ∷ []) ++ written (summary_lines n s)
+played_text n seed games s = flat_map-cons line_of (codes "play" ∷ decimal seed ∷ decimal games ∷ []) (summary_lines n s)

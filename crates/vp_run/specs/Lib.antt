@@ -17,3 +17,4 @@ pub mod Replayed
 pub mod Played
 pub mod PrintedLists
 pub mod Losses
+pub mod Moments

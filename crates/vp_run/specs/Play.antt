@@ -6,6 +6,7 @@ use Rattle.vp_pay.specs.Bets.{IsBet}
 use Rattle.vp_pay.specs.declared.table.PayTable.{PayTable}
 use Rattle.vp_loggram.specs.Logs.{LogValue}
 use Rattle.vp_replay.specs.Summaries.{summary_lines, summary_of}
+use Rattle.vp_replay.specs.declared.summary.Summary.{Summary}
 use Rattle.vp_gen.specs.Generator.{generated}
 use Rattle.vp_answer.specs.Inputs.{AreRead, RefusesTable, SpellsTable, table_input}
 use Rattle.vp_run.specs.Deal.{has_bet}
@@ -31,13 +32,14 @@ pub record IsPlayed (p : Played) : Type 0 where
 abbrev pub log_of : Played → LogValue
 log_of p = generated p.table p.coin p.seed p.games
 
--- a seed and a number of games, and the lines of the numbers of a log, which `replay` prints behind those of the costs
-abbrev pub played_lines : PayTable → ℕ → ℕ → LogValue → Text
-played_lines table seed games log = (codes "play" ∷ decimal seed ∷ decimal games ∷ []) ∷ summary_lines table.deck (summary_of table log)
+-- a seed and a number of games, and the lines of the numbers of a log with cards of a deck of n, which `replay` prints behind those of
+-- the costs
+abbrev pub played_lines : ℕ → ℕ → ℕ → Summary → Text
+played_lines n seed games s = (codes "play" ∷ decimal seed ∷ decimal games ∷ []) ∷ summary_lines n s
 
 -- what `play` prints
 abbrev pub play_lines : Played → Text
-play_lines p = played_lines p.table p.seed p.games (log_of p)
+play_lines p = played_lines p.table.deck p.seed p.games (summary_of p.table (log_of p))
 
 -- a pay table that has the bet
 abbrev pub PlayInputsAreRead : Type 0

@@ -25,12 +25,12 @@ pub record IsReplayed (p : Played) : Type 0 where
   pub short : length (log_file p) ≤ 67108864
   pub answered : (words : List Word) → command_of words ≡ Some (Over Replay) → answer words (log_file p) ≡ done (written (replay_lines p.table (log_of p)))
 
--- the answer is the seed, the number of games and the lines of the numbers of a log of so many games, which is in the grammar and
--- breaks no law, and `replay` answers it with the same numbers
+-- the answer is the seed, the number of games and the lines of the numbers of a log of so many games for this bet, which is in the grammar
+-- and breaks no law, and `replay` answers it with the same numbers
 pub record TellsPlay (p : Played) (due : Answer) : Type 0 where
   pub status : due.status ≡ Done
   pub text : due.text ≡ written (play_lines p)
-  pub accepted : IsAccepted p.table p.games (log_of p)
+  pub accepted : IsAccepted p.table p.coin p.games (log_of p)
   pub replayed : IsReplayed p
 
 -- the answer of `play` to each pay table that it takes

@@ -10,6 +10,7 @@ ghost use Rattle.vp_run.specs.Replayed.{ReplaysTellCosts};
 ghost use Rattle.vp_run.specs.CheckedInParts.{PartsTellEveryDeal, PartsTellWalkedDeals};
 ghost use Rattle.vp_run.specs.EveryDeal.{CertificatesAreChecked, CertificatesTellEveryDeal, ChecksTellEveryDeal, ChecksTellWalkedDeals, DealsPrintBestHolds, MetersAreTold};
 ghost use Rattle.vp_run.specs.Meter.{MeterInputsAreRead};
+ghost use Rattle.vp_run.specs.Moments.{MultisPrintMoments};
 ghost use Rattle.vp_run.specs.Multi.{MultiInputsAreRead};
 ghost use Rattle.vp_run.specs.Play.{PlayInputsAreRead};
 ghost use Rattle.vp_run.specs.Played.{PlaysAreReplayed};
@@ -136,10 +137,21 @@ pub fn meters_are_told()
 {}
 
 /// The answer of `audit` to each pay table and list that it takes prints the loss of the list: the optimum, which is the
-/// sum over all deals of the best values, less the sum over all deals of the least value that the list allows; among the
-/// holds that the first matching rule matches, where no exception is one of the deal's class.
+/// sum over all deals of the best values, less the sum over all deals of the least value that the list allows, which never
+/// exceeds the best one: that of the exception's hold, where an exception is one of the deal's class; else the least among
+/// the holds that the first matching rule matches; else that of holding nothing. The lines of the exceptions, of the rules
+/// and of no rule share out all deals and the loss.
 pub fn audits_print_losses()
     ensures { AuditsPrintLosses }
+{}
+
+/// The answer of `multi` to each pay table that it takes are four lines, whose numbers are the moments of the total payment
+/// of several hands from one deal: each deal has a printed hold, to which its hands are drawn; the moments of the deal over
+/// all lists of draws, each as likely as the others, are these and no others; the mean and the second moment are summed
+/// over all deals; and the variance is that within the draws of a deal, once for each hand, and that between the deals,
+/// once for each pair of hands.
+pub fn multis_print_moments()
+    ensures { MultisPrintMoments }
 {}
 
 /// What `compile` takes for its input is what the lines of the input spell: a valid pay table that has the bet, then a pool

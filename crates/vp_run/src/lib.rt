@@ -25,8 +25,8 @@ pub use laws::{
     checks_in_parts_tell_every_deal, commands_are_spelled, compile_inputs_are_read,
     compiled_lists_are_audited, compiled_lists_lose_little, deal_inputs_are_read,
     deals_print_best_holds, meter_inputs_are_read, meters_are_told, multi_inputs_are_read,
-    play_inputs_are_read, plays_are_replayed, replay_inputs_are_read, replays_tell_costs,
-    usage_is_for_no_command,
+    multis_print_moments, play_inputs_are_read, plays_are_replayed, replay_inputs_are_read,
+    replays_tell_costs, usage_is_for_no_command,
 };
 pub use serve::{region_words, served};
 pub use top::{vpoker, vpoker_in_blocks};

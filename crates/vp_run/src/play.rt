@@ -1,9 +1,7 @@
 //! `play`: a large log from a number, made, read and priced.
 
-ghost use Rattle.std.specs.Prelude.{◌≡◌, None};
+ghost use Rattle.vp_card.specs.Cards.{IsDeck};
 ghost use Rattle.vp_io.specs.Puts.{Puts};
-ghost use Rattle.vp_loggram.specs.Logs.{IsLog};
-ghost use Rattle.vp_replay.specs.Rules.{break_in};
 ghost use Rattle.vp_text.specs.Written.{written};
 ghost use Rattle.vp_run.specs.Play.{played_lines};
 
@@ -18,7 +16,7 @@ use vp_lines::{Word, put_words};
 use vp_loggram::Log;
 use vp_pay::PayTable;
 use vp_region::Region;
-use vp_replay::{Games, put_summary, replay};
+use vp_replay::{Summary, put_summary, summary_at};
 use vp_text::Lines;
 
 /// A bet on a pay table, the seed of a log, and how many games it has.
@@ -44,10 +42,10 @@ impl PlayJob {
     ghost use Rattle.std.specs.Prelude.{◌≡◌, ◌+◌, ◌*◌, ◌≤◌, IfOk, None, length};
     ghost use Rattle.vp_answer.specs.Asking.{PutsOrAsks};
     ghost use Rattle.vp_count.specs.Table.{first_word};
-    ghost use Rattle.vp_io.specs.Puts.{Puts};
     ghost use Rattle.vp_loggram.specs.Logs.{IsLog};
     ghost use Rattle.vp_loggram.specs.Spelling.{log_text};
     ghost use Rattle.vp_replay.specs.Rules.{break_in};
+    ghost use Rattle.vp_replay.specs.Summaries.{AllBet, summary_of};
     ghost use Rattle.vp_run.specs.Play.{IsPlayed, log_of, play_lines};
     ghost use Rattle.vp_text.specs.Written.{written};
 
@@ -83,29 +81,26 @@ impl PlayJob {
         ensures puts { PutsOrAsks (K.told sink.old) (K.told sink.new) result (written (play_lines self.now)) }
         ensures same { region.new ≡ region.old }
     {
-        let size = table_words(self.table.deck);
         let mut carver = region.carve();
-        let words = carver.take_as_it_is(size).unwrap();
-        let more = carver
-            .take_as_it_is(self.table.coins as usize * size)
-            .unwrap();
-        let Ok(text) = self.made(alloc, words) else {
+        let words = carver.take_as_it_is(table_words(self.table.deck)).unwrap();
+        let Ok(summary) = self.summary(alloc, words) else {
             return Err(PutStop::NoMemory);
         };
-        let games = Games::of(&self.table, more);
-        match put_played(self.seed, self.games, &games, &self.read(&text), sink) {
+        match put_played(self.table.deck, self.seed, self.games, &summary, sink) {
             Ok(()) => Ok(()),
             Err(WriteFault) => Err(PutStop::WriteFault),
         }
     }
 
-    /// The text of the log.
-    fn made(&self, alloc: Global, words: &mut [u64]) -> Result<Vec<u8>, AllocError>
+    /// The numbers of the log, which is made and read. The error is want of memory. All its games bet the same, so the
+    /// sums of that bet are the only ones that are made.
+    fn summary(&self, alloc: Global, words: &mut [u64]) -> Result<Summary, AllocError>
         requires { length words.old ≡ first_word self.now.table.deck 6 }
-        ensures { IfOk result (λ text. text.items ≡ written (log_text (log_of self.now))) }
+        ensures { IfOk result (λ summary. summary ≡ summary_of self.now.table (log_of self.now)) }
     {
         let game = Game::of(&self.table, self.coin, words);
-        make_log(alloc, &game, self.seed, self.games)
+        let text = make_log(alloc, &game, self.seed, self.games)?;
+        Ok(summary_at(&game, &self.read(&text)))
     }
 
     /// The log that its text says. It is in the grammar, whatever the seed, and no game breaks a law.
@@ -114,6 +109,7 @@ impl PlayJob {
         ensures log { result ≡ log_of self.now }
         ensures grammar { IsLog self.now.table.deck result }
         ensures lawful { break_in self.now.table result ≡ None }
+        ensures bets { AllBet self.now.coin result.events }
     {
         let deck = self.table.deck;
         Log::read(&mut Lines::new(text), deck).unwrap()
@@ -121,25 +117,22 @@ impl PlayJob {
 
 }
 
-/// Puts a seed and a number of games, and the numbers of a lawful log.
+/// Puts a seed and a number of games, and the numbers of a log with cards of a deck of so many.
 fn put_played<K: Sink>(
+    deck: u8,
     seed: u64,
-    count: u32,
-    games: &Games,
-    log: &Log,
+    games: u32,
+    summary: &Summary,
     sink: &mut K,
 ) -> Result<(), WriteFault>
-    requires log { IsLog games.now.deck log.now }
-    requires lawful { break_in games.now log.now ≡ None }
-    ensures { Puts (K.told sink.old) (K.told sink.new) result (written (played_lines games.now seed count log.now)) }
+    requires { IsDeck deck }
+    ensures { Puts (K.told sink.old) (K.told sink.new) result (written (played_lines deck seed games summary.now)) }
 {
-    let deck = games.table().deck;
     let first = [
         Word::Text(b"play"),
         Word::Number(seed as u128),
-        Word::Number(count as u128),
+        Word::Number(games as u128),
     ];
     put_words(&first, sink)?;
-    let summary = replay(games, log, false, sink)?;
-    put_summary(&summary, deck, sink)
+    put_summary(summary, deck, sink)
 }

@@ -4,6 +4,7 @@ use Rattle.std.specs.Prelude.{Ok, Result}
 use Rattle.vp_text.specs.Lines.{feed_of}
 use Rattle.vp_text.specs.declared.refused.Refused.{Refused}
 use Rattle.vp_loggram.specs.Logs.{LogValue}
+use Rattle.vp_replay.specs.Summaries.{AllBet}
 use Rattle.vp_run.specs.Play.{IsPlayed, Played, log_of}
 use Rattle.vp_run.proofs.MadeLogs.{log_accepted, takes_log}
 use Rattle.vp_run.proofs.play.PlayJob.read.Goals as goal
@@ -36,3 +37,6 @@ returns-clause-log c = log_is c
 
 pub returns-clause-lawful : goal.returns-clause-lawful
 returns-clause-lawful c = rw (log_is c) (log_accepted c.args.self.now (subst IsPlayed c.self.view_is c.self.invariant)).lawful
+
+pub returns-clause-bets : goal.returns-clause-bets
+returns-clause-bets c = subst (λ (log : LogValue). AllBet c.args.self.now.coin log.events) (sym (log_is c)) (log_accepted c.args.self.now (subst IsPlayed c.self.view_is c.self.invariant)).bets
