@@ -1,5 +1,6 @@
 //! Laws of lists and their values, each the contract of a function that does nothing.
 
+ghost use Rattle.vp_audit.specs.Masked.{BestHoldsLoseLeast};
 ghost use Rattle.vp_audit.specs.Laws.{AllowedByClasses, CompiledAreLists, DealsAreSharedOut, DecidedByClasses, ExceptedLoseAsLists, ExceptionsChargeTheirHold, GreatestByClasses, LeastAndLossAreTheBest, LeastByClasses, LeastIsAtMostTheBest, LossIsSharedOut, NothingChargesHoldingNothing, OrdersLoseAsLists, RowsAreWorthTheBest, RulesAllowTheGreatest, RulesChargeTheLeast};
 
 /// The values of the holds that a rule matches are the same for all deals of a class, which are what the turns of the
@@ -44,4 +45,9 @@ pub fn orders_lose_as_lists()
 /// of the list language.
 pub fn compiled_lists_are_lists()
     ensures { CompiledAreLists }
+{}
+
+/// A list with exceptions for the classes at some places loses at least what it loses where these give the best holds.
+pub fn best_holds_lose_least()
+    ensures { BestHoldsLoseLeast }
 {}

@@ -11,6 +11,9 @@ pub mod ReplayWords
 pub mod Replays
 pub mod MadeLogs
 pub mod Plays
+pub mod CompiledPools
+pub mod ShortLists
+pub mod CompiledAnswers
 pub mod Meters
 pub mod GivenWords
 pub mod SomeText

@@ -24,7 +24,7 @@ use Rattle.vp_run.proofs.FittingBets.{bet_fits}
 use Rattle.vp_run.proofs.NoCommand.{answer_as}
 
 -- the answer to what the input says
-audit_as : (words : List Word) (coin : ℕ) (bytes : List ℕ) (table : PayTable) (list : RuleList) → command_of words ≡ Some (Over (Audit coin)) → audit_input coin bytes ≡ Ok (table, list)
+pub audit_as : (words : List Word) (coin : ℕ) (bytes : List ℕ) (table : PayTable) (list : RuleList) → command_of words ≡ Some (Over (Audit coin)) → audit_input coin bytes ≡ Ok (table, list)
     → done (written (audit_lines (record { table = table; coin = coin; list = list }))) ≡ answer words bytes
 audit_as words coin bytes table list is says =
     ap (λ r. answer_read job_text (read_as (audit_job coin) r)) (sym says) ∙ answer_as words (Some (Over (Audit coin))) bytes is

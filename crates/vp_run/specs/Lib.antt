@@ -3,6 +3,7 @@ pub mod Deal
 pub mod Certify
 pub mod Multi
 pub mod Play
+pub mod Compile
 pub mod Check
 pub mod Replay
 pub mod Meter
@@ -14,5 +15,6 @@ pub mod EveryDeal
 pub mod CheckedInParts
 pub mod Replayed
 pub mod Played
+pub mod PrintedLists
 pub mod Losses
 pub mod Moments

@@ -15,6 +15,8 @@ ghost use Rattle.vp_run.specs.Multi.{MultiInputsAreRead};
 ghost use Rattle.vp_run.specs.Play.{PlayInputsAreRead};
 ghost use Rattle.vp_run.specs.Played.{PlaysAreReplayed};
 ghost use Rattle.vp_run.specs.Losses.{AuditsPrintLosses};
+ghost use Rattle.vp_run.specs.Compile.{CompileInputsAreRead};
+ghost use Rattle.vp_run.specs.PrintedLists.{CompiledListsAreAudited, CompiledListsLoseLittle};
 
 /// Words are a command exactly where they spell it: its name, and its numbers in decimal digits, each in its range.
 pub fn commands_are_spelled()
@@ -150,4 +152,24 @@ pub fn audits_print_losses()
 /// once for each pair of hands.
 pub fn multis_print_moments()
     ensures { MultisPrintMoments }
+{}
+
+/// What `compile` takes for its input is what the lines of the input spell: a valid pay table that has the bet, then a pool
+/// of rules for it, and nothing else. Every other input is refused, exactly at its refused line.
+pub fn compile_inputs_are_read()
+    ensures { CompileInputsAreRead }
+{}
+
+/// The answer of `compile` to each pay table and pool that it takes is a list with the numbers that are said of it. The
+/// last of them is what the list loses, and it is at most the target; the rules stand in an order in which no exchange of
+/// two neighbours lowers what the list of the rules loses; and with exceptions for fewer classes, whatever holds they give,
+/// the list of the rules in this order loses more than the target.
+pub fn compiled_lists_lose_little()
+    ensures { CompiledListsLoseLittle }
+{}
+
+/// What `compile` prints, behind its pay table, is an input of `audit`, short enough to be read, that says the table and
+/// the list that is printed: the loss that `audit` answers is the one that is printed.
+pub fn compiled_lists_are_audited()
+    ensures { CompiledListsAreAudited }
 {}
