@@ -58,6 +58,7 @@ pub fn cost_at(game: &Game, event: &Event) -> u64
     ensures value { result ≡ cost_of game.now.table event.now }
     ensures cost { IsCost game.now.table event.now result }
 {
+    let _table = game.table();
     let hand = Hand::of(event.deal).unwrap();
     let mask = mask_of(&hand, &event.hold);
     game.best(&hand).value - game.value(&hand, mask)
