@@ -4,7 +4,7 @@ use Rattle.std.specs.List.{Contains}
 use Rattle.std.proofs.lemmas.List.{take-append-le, take_all}
 use Rattle.std.proofs.Math.Seq.{get_or-append_seam}
 use Rattle.vp_text.specs.Lines.{Word}
-use Rattle.vpoker_c.specs.Words.{AreWords, IsWord}
+use Rattle.vpoker_c.specs.Words.{AreWords, BeginsWith}
 
 -- behind a first byte there is no zero byte either
 tail_whole : (byte : ℕ) (bytes : List ℕ) → ¬ Contains (byte ∷ bytes) 0 → ¬ Contains bytes 0
@@ -39,23 +39,22 @@ split_none bytes = record {
 }
 
 -- the words of what is left begin with its first word
-next_back : (left rest : List ℕ) (word : Word) (more : List Word) → IsWord word → left ≡ word ++ (0 ∷ rest) → AreWords more left
+next_back : (left rest : List ℕ) (word : Word) (more : List Word) → BeginsWith word rest left → AreWords more left
     → (others : List Word) × (more ≡ word ∷ others) × AreWords others rest
-next_back left rest word [] is cut are = absurd (omega (arith, ap length are, ap length cut, length-append word (0 ∷ rest)))
-next_back left rest word (other ∷ others) is cut (an, (behind, spelled, are)) =
-    let both = cut_once word other rest behind is.whole an.whole (sym cut ∙ spelled) in
+next_back left rest word [] begins are = absurd (omega (arith, ap length are, ap length begins.bytes_are, length-append word (0 ∷ rest)))
+next_back left rest word (other ∷ others) begins (behind, an, are) =
+    let both = cut_once word other rest behind begins.word_is.whole an.word_is.whole (sym begins.bytes_are ∙ an.bytes_are) in
     (others, cc (both.0), subst (λ (r : List ℕ). AreWords others r) (sym (both.1)) are)
 
-next_on : (bytes left rest : List ℕ) (given : List Word) (word : Word) (s : IsSplit bytes left given) → IsWord word → left ≡ word ++ (0 ∷ rest)
+next_on : (bytes left rest : List ℕ) (given : List Word) (word : Word) (s : IsSplit bytes left given) → BeginsWith word rest left
     → (more : List Word) → AreWords more rest → AreWords ((s.seen ++ (word ∷ [])) ++ more) bytes
-next_on bytes left rest given word s is cut more are =
-    rw append_assoc (s.on (word ∷ more) (is, (rest, cut, are)))
+next_on bytes left rest given word s begins more are = rw append_assoc (s.on (word ∷ more) (rest, begins, are))
 
-next_split : (bytes left rest : List ℕ) (given : List Word) (word : Word) (s : IsSplit bytes left given) → IsWord word → left ≡ word ++ (0 ∷ rest)
+next_split : (bytes left rest : List ℕ) (given : List Word) (word : Word) (s : IsSplit bytes left given) → BeginsWith word rest left
     → (all : List Word) → AreWords all bytes → (more : List Word) × (all ≡ (s.seen ++ (word ∷ [])) ++ more) × AreWords more rest
-next_split bytes left rest given word s is cut all are =
+next_split bytes left rest given word s begins all are =
     let (more, all_is, ares) = s.back all are in
-    let (others, more_is, those) = next_back left rest word more is cut ares in
+    let (others, more_is, those) = next_back left rest word more begins ares in
     (others, all_is ∙ ap (λ (m : List Word). s.seen ++ m) more_is ∙ sym (append_assoc s.seen (word ∷ []) others), those)
 
 -- six are given only where six were seen, and all that were seen where fewer than six are given
@@ -66,13 +65,13 @@ few_seen : (given seen : List Word) → given ≡ take 6 seen → length given <
 few_seen given seen is few = omega (arith, ap length is, length-take 6 seen)
 
 -- one word more: it is given unless six are
-pub split_full : (bytes left rest : List ℕ) (given : List Word) (word : Word) → IsSplit bytes left given → IsWord word → left ≡ word ++ (0 ∷ rest)
+pub split_full : (bytes left rest : List ℕ) (given : List Word) (word : Word) → IsSplit bytes left given → BeginsWith word rest left
     → 6 ≤ length given → IsSplit bytes rest given
-split_full bytes left rest given word s is cut full = record {
+split_full bytes left rest given word s begins full = record {
   seen = s.seen ++ (word ∷ []);
   given_is = s.given_is ∙ sym (take-append-le 6 s.seen (word ∷ []) (full_seen given s.seen s.given_is full));
-  on = next_on bytes left rest given word s is cut;
-  back = next_split bytes left rest given word s is cut;
+  on = next_on bytes left rest given word s begins;
+  back = next_split bytes left rest given word s begins;
 }
 
 few_more : (given seen : List Word) (word : Word) → given ≡ take 6 seen → length given < 6 → given ++ (word ∷ []) ≡ take 6 (seen ++ (word ∷ []))
@@ -81,19 +80,19 @@ few_more given seen word is few =
     let all : take 6 seen ≡ seen = take_all 6 seen (omega arith) in
     ap (λ (ws : List Word). ws ++ (word ∷ [])) (is ∙ all) ∙ sym (take_all 6 (seen ++ (word ∷ [])) (omega (arith, length-append seen (word ∷ []))))
 
-pub split_more : (bytes left rest : List ℕ) (given : List Word) (word : Word) → IsSplit bytes left given → IsWord word → left ≡ word ++ (0 ∷ rest)
+pub split_more : (bytes left rest : List ℕ) (given : List Word) (word : Word) → IsSplit bytes left given → BeginsWith word rest left
     → length given < 6 → IsSplit bytes rest (given ++ (word ∷ []))
-split_more bytes left rest given word s is cut room = record {
+split_more bytes left rest given word s begins room = record {
   seen = s.seen ++ (word ∷ []);
   given_is = few_more given s.seen word s.given_is room;
-  on = next_on bytes left rest given word s is cut;
-  back = next_split bytes left rest given word s is cut;
+  on = next_on bytes left rest given word s begins;
+  back = next_split bytes left rest given word s begins;
 }
 
 -- no bytes are no words
 no_words : (words : List Word) (left : List ℕ) → length left ≡ 0 → AreWords words left → words ≡ []
 no_words [] left none are = refl
-no_words (word ∷ words) left none (is, (rest, cut, are)) = absurd (omega (arith, ap length cut, length-append word (0 ∷ rest)))
+no_words (word ∷ words) left none (rest, begins, are) = absurd (omega (arith, ap length begins.bytes_are, length-append word (0 ∷ rest)))
 
 empty_is : (left : List ℕ) → length left ≡ 0 → left ≡ []
 empty_is [] none = refl
@@ -108,13 +107,13 @@ split_first bytes left given s none all are =
     let (more, all_is, ares) = s.back all are in
     s.given_is ∙ ap (take 6) (sym (all_is ∙ ap (λ (m : List Word). s.seen ++ m) (no_words more left none ares) ∙ append-nil s.seen))
 
-stuck : (left : List ℕ) → 0 < length left → ((word rest : List ℕ) → IsWord word → ¬ (left ≡ word ++ (0 ∷ rest))) → (more : List Word) → ¬ AreWords more left
+stuck : (left : List ℕ) → 0 < length left → ((word rest : List ℕ) → ¬ BeginsWith word rest left) → (more : List Word) → ¬ AreWords more left
 stuck left some none [] are = omega (arith, ap length are)
-stuck left some none (word ∷ more) (is, (rest, cut, are)) = none word rest is cut
+stuck left some none (word ∷ more) (rest, begins, are) = none word rest begins
 
 -- what is left and is no words makes the whole no words
 pub split_stuck : (bytes left : List ℕ) (given : List Word) → IsSplit bytes left given → 0 < length left
-    → ((word rest : List ℕ) → IsWord word → ¬ (left ≡ word ++ (0 ∷ rest))) → (all : List Word) → ¬ AreWords all bytes
+    → ((word rest : List ℕ) → ¬ BeginsWith word rest left) → (all : List Word) → ¬ AreWords all bytes
 split_stuck bytes left given s some none all are =
     let (more, all_is, ares) = s.back all are in
     stuck left some none more ares

@@ -6,6 +6,7 @@ use Rattle.vp_answer.specs.StatusCode.{code_of}
 use Rattle.vp_answer.specs.declared.status.Status.{Status}
 use Rattle.vp_answer.specs.declared.status.Status.TheVariants.{ReadFault, WriteFault, NoMemory, TooLong}
 use Rattle.vp_run.specs.Answer.{answer, needs_input}
+use Rattle.vpoker_c.specs.Words.{AreWords}
 
 -- a text stands at the front of the room: as many bytes of it were taken as it has, and what is behind them is as before
 pub record Holds (text before after : List ℕ) (taken : ℕ) : Type 0 where
@@ -48,7 +49,15 @@ pub record IsAnswered (words : List Word) (input before after : List ℕ) (taken
   pub long : status ≡ TooLong → IsTooLong words input
   pub only : IsTooLong words input → (status ≡ TooLong) ⊎ (status ≡ NoMemory)
 
+-- bytes that are words get the answer to these words and the input
+abbrev pub AnswersWords : (bytes input before after : List ℕ) (taken code : ℕ) → Type 0
+AnswersWords bytes input before after taken code = (words : List Word) → AreWords words bytes → IsAnswered words input before after taken code
+
 -- what was handed over is no words
 pub record IsRefused (before after : List ℕ) (taken code : ℕ) : Type 0 where
   pub code_is : code ≡ 8
   pub untouched : IsUntouched before after taken
+
+-- bytes that are no words are refused
+abbrev pub RefusesOthers : (bytes before after : List ℕ) (taken code : ℕ) → Type 0
+RefusesOthers bytes before after taken code = ((words : List Word) → ¬ AreWords words bytes) → IsRefused before after taken code

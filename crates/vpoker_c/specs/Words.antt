@@ -9,7 +9,12 @@ pub record IsWord (word : Word) : Type 0 where
   pub valid : IsUtf8 word
   pub whole : ¬ Contains word 0
 
--- the bytes are these words: none are no bytes; a first word is its bytes and a zero byte, and behind that are the others
+-- the bytes begin with this word and its zero byte, and behind that is the rest
+pub record BeginsWith (word rest bytes : List ℕ) : Type 0 where
+  pub word_is : IsWord word
+  pub bytes_are : bytes ≡ word ++ (0 ∷ rest)
+
+-- the bytes are these words: no bytes are none, and behind the first word are the others
 abbrev pub AreWords : List Word → List ℕ → Type 0
 AreWords [] bytes = bytes ≡ []
-AreWords (word ∷ words) bytes = IsWord word × ((rest : List ℕ) × (bytes ≡ word ++ (0 ∷ rest)) × AreWords words rest)
+AreWords (word ∷ words) bytes = (rest : List ℕ) × BeginsWith word rest bytes × AreWords words rest

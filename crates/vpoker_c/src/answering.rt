@@ -1,9 +1,8 @@
 //! One call of the program over memory.
 
-ghost use Rattle.std.specs.Prelude.{◌≡◌, List, map, take};
+ghost use Rattle.std.specs.Prelude.{map};
 ghost use Rattle.vp_answer.specs.StatusCode.{code_of};
-ghost use Rattle.vp_text.specs.Lines.{Word};
-ghost use Rattle.vpoker_c.specs.Ends.{IsAnswered};
+ghost use Rattle.vpoker_c.specs.First.{AnswersAll};
 
 use crate::text_sink::TextSink;
 use std::alloc::Global;
@@ -18,7 +17,7 @@ pub(crate) fn answer_into(
     input: &[u8],
     room: &mut [u8],
 ) -> (Status, usize)
-    ensures { (given : List Word) → map (λ w. w.now) words.now ≡ take 6 given → IsAnswered given input.now room.old room.new result.1 (code_of result.0) }
+    ensures { let first = map (λ w. w.now) words.now in AnswersAll first input.now room.old room.new result.1 (code_of result.0) }
 {
     let Ok(mut sink) = TextSink::new(alloc, room.len()) else {
         return (Status::NoMemory, 0);

@@ -1,10 +1,7 @@
 //! The program for callers that are not Rattle: one function of C over words, an input and a room, all in memory.
 #![tactic(auto)]
 
-ghost use Rattle.std.specs.Prelude.{◌≡◌, List};
-ghost use Rattle.vp_text.specs.Lines.{Word};
-ghost use Rattle.vpoker_c.specs.Ends.{IsAnswered, IsRefused};
-ghost use Rattle.vpoker_c.specs.Words.{AreWords};
+ghost use Rattle.vpoker_c.specs.Ends.{AnswersWords, RefusesOthers};
 
 mod answering;
 mod text_sink;
@@ -30,8 +27,8 @@ pub extern "C" fn vpoker_answer(
     room: &mut [u8],
     taken: &mut usize,
 ) -> u8
-    ensures answered { (given : List Word) → AreWords given words.now → IsAnswered given input.now room.old room.new taken.new result }
-    ensures refused { ((given : List Word) → ¬ AreWords given words.now) → IsRefused room.old room.new taken.new result }
+    ensures answered { AnswersWords words.now input.now room.old room.new taken.new result }
+    ensures refused { RefusesOthers words.now room.old room.new taken.new result }
 {
     match words_in(words) {
         Some(words) => {

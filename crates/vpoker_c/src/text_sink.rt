@@ -16,14 +16,14 @@ pub(crate) struct TextSink {
 }
 
 impl Model for TextSink {
-    ghost use Rattle.std.specs.Prelude.{◌≡◌, ◌≤◌, length, true, vec_capacity};
-    ghost use Rattle.vpoker_c.specs.Keeping.{Kept};
+    ghost use Rattle.std.specs.Prelude.{vec_capacity};
+    ghost use Rattle.vpoker_c.specs.Keeping.{IsKept, Kept};
 
     ghost Value = { Kept };
 
     ghost view = { λ s. record { limit = s.limit; text = s.text.items; is_cut = s.is_cut } };
 
-    ghost invariant = { λ s. (length s.text.items ≤ s.limit) × (s.limit ≤ vec_capacity s.text) × (s.is_cut ≡ true → length s.text.items ≡ s.limit) };
+    ghost invariant = { λ s. IsKept s.text.items s.limit (vec_capacity s.text) s.is_cut };
 }
 
 impl TextSink {

@@ -1,9 +1,10 @@
 //! The words that a caller hands over.
 
-ghost use Rattle.std.specs.Prelude.{◌≡◌, ℕ, List, ◌∷◌, ◌++◌, map, take, IfSome, IfNone};
+ghost use Rattle.std.specs.Prelude.{◌≡◌, ℕ, List, ◌∷◌, ◌++◌, map, IfSome, IfNone};
 ghost use Rattle.std.specs.List.{Contains};
 ghost use Rattle.vp_text.specs.Lines.{Word};
-ghost use Rattle.vpoker_c.specs.Words.{AreWords, IsWord};
+ghost use Rattle.vpoker_c.specs.First.{AreFirst};
+ghost use Rattle.vpoker_c.specs.Words.{AreWords, BeginsWith};
 
 use arrayvec::ArrayVec;
 use memchr::memchr;
@@ -11,7 +12,7 @@ use memchr::memchr;
 /// The first six of the words that the bytes are, or nothing where they are no words.
 pub(crate) fn words_in<'a>(bytes: &'a [u8]) -> Option<ArrayVec<&'a str, 6>>
     ensures some { IfSome result (λ _. (given : List Word) × AreWords given bytes.now) }
-    ensures first { IfSome result (λ words. (given : List Word) → AreWords given bytes.now → map (λ w. w.now) words.items ≡ take 6 given) }
+    ensures first { IfSome result (λ words. AreFirst (map (λ w. w.now) words.items) bytes.now) }
     ensures none { IfNone result ((given : List Word) → ¬ AreWords given bytes.now) }
 {
     let mut words = ArrayVec::new();
@@ -28,9 +29,8 @@ pub(crate) fn words_in<'a>(bytes: &'a [u8]) -> Option<ArrayVec<&'a str, 6>>
 
 /// The first word, and what is behind its zero byte.
 fn first_word(bytes: &[u8]) -> Option<(&str, &[u8])>
-    ensures word { IfSome result (λ cut. IsWord cut.0.now) }
-    ensures cut { IfSome result (λ cut. bytes.now ≡ cut.0.now ++ (0 ∷ cut.1.now)) }
-    ensures none { IfNone result ((word rest : List ℕ) → IsWord word → ¬ (bytes.now ≡ word ++ (0 ∷ rest))) }
+    ensures some { IfSome result (λ cut. BeginsWith cut.0.now cut.1.now bytes.now) }
+    ensures none { IfNone result ((word rest : List ℕ) → ¬ BeginsWith word rest bytes.now) }
 {
     let (word, rest) = before_zero(bytes)?;
     match str::from_utf8(word) {

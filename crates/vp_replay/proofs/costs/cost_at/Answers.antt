@@ -1,5 +1,5 @@
 -- The hand is the deal in rising order, and what is reckoned over it is the cost.
-use Rattle.std.proofs.Common.{sym, ap, ◌∙◌, length}
+use Rattle.std.proofs.Common.{refl, sym, ap, ◌∙◌, length}
 use Rattle.vp_replay.proofs.Costing.{cost_of_means, hand_is, reckoned}
 use Rattle.vp_replay.proofs.costs.cost_at.Goals as goal
 

@@ -6,9 +6,9 @@ use Rattle.vpoker_c.proofs.words.first_word.Goals as goal
 
 pub returns-in_err-word-clause-none : goal.returns-in_err-word-clause-none
 returns-in_err-word-clause-none c =
-    rw c.from_residual.ensures (λ word rest is spelled. c.in_err-word.ensures.none (zero_stands c.args.bytes.now word rest spelled))
+    rw c.from_residual.ensures (λ word rest begins. c.in_err-word.ensures.none (zero_stands c.args.bytes.now word rest begins.bytes_are))
 
 pub returns-in-Err-clause-none : goal.returns-in-Err-clause-none
-returns-in-Err-clause-none c word rest is spelled =
-    let both = cut_once word c.in_ok-word.word.now rest c.in_ok-word.rest.now is.whole c.in_ok-word.ensures.whole (sym spelled ∙ c.in_ok-word.ensures.cut) in
-    c.in-Err.ensures.cases.0 (subst (λ (w : List ℕ). IsUtf8 w) both.0 is.valid)
+returns-in-Err-clause-none c word rest begins =
+    let both = cut_once word c.in_ok-word.word.now rest c.in_ok-word.rest.now begins.word_is.whole c.in_ok-word.ensures.whole (sym begins.bytes_are ∙ c.in_ok-word.ensures.cut) in
+    c.in-Err.ensures.cases.0 (subst (λ (w : List ℕ). IsUtf8 w) both.0 begins.word_is.valid)

@@ -18,13 +18,13 @@ loop-left-preserved-then-not-is_full c =
     let few : length c.loop-left.words.items < 6 = grind (arith, nat_tests) in
     let room : length (words_of c.loop-left.words.items) < 6 = rw length-map few in
     let more : words_of c.push.new.self.items ≡ words_of c.loop-left.words.items ++ (c.in_ok-word.word.now ∷ []) = ap words_of c.push.ensures.items ∙ map-append (λ (w : Bor (List ℕ)). w.now) c.loop-left.words.items (c.in_ok-word.word ∷ []) in
-    rw more (split_more c.args.bytes.now c.loop-left.left.now c.in_ok-word.rest.now (words_of c.loop-left.words.items) c.in_ok-word.word.now c.loop-left.invariant c.in_ok-word.ensures.word c.in_ok-word.ensures.cut room)
+    rw more (split_more c.args.bytes.now c.loop-left.left.now c.in_ok-word.rest.now (words_of c.loop-left.words.items) c.in_ok-word.word.now c.loop-left.invariant c.in_ok-word.ensures.some room)
 
 pub loop-left-preserved : goal.loop-left-preserved
 loop-left-preserved c =
     let six : 6 ≤ length c.loop-left.words.items = grind (arith, nat_tests) in
     let full : 6 ≤ length (words_of c.loop-left.words.items) = rw length-map six in
-    split_full c.args.bytes.now c.loop-left.left.now c.in_ok-word.rest.now (words_of c.loop-left.words.items) c.in_ok-word.word.now c.loop-left.invariant c.in_ok-word.ensures.word c.in_ok-word.ensures.cut full
+    split_full c.args.bytes.now c.loop-left.left.now c.in_ok-word.rest.now (words_of c.loop-left.words.items) c.in_ok-word.word.now c.loop-left.invariant c.in_ok-word.ensures.some full
 
 pub returns-clause-some : goal.returns-clause-some
 returns-clause-some c =
