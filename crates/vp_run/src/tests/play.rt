@@ -7,6 +7,7 @@ use vp_pay::samples::{ONE_JOKER, ZERO};
 
 // The words of two tables of sums, for decks of 52 and of 53 cards.
 const TWO_TABLES: usize = 2 * 2_893_164;
+
 const TWO_LARGER: usize = 2 * 3_187_368;
 
 // Reckoned by a program of its own. Of nine games two throw the joker's chance away: they hold cards by any mask.
@@ -49,7 +50,11 @@ fn what_play_does_not_take(rt: HostRuntime) -> Result<(), Fail> {
         (&["play", "1", "0", "0"], Status::Usage, b"usage\n"),
         (&["play", "1", "0", "100001"], Status::Usage, b"usage\n"),
         (&["play", "6", "0", "1"], Status::Usage, b"usage\n"),
-        (&["play", "1", "18446744073709551616", "1"], Status::Usage, b"usage\n"),
+        (
+            &["play", "1", "18446744073709551616", "1"],
+            Status::Usage,
+            b"usage\n",
+        ),
         (&["play", "1", "00", "1"], Status::Usage, b"usage\n"),
         (&["play", "1", "0", "1", "1"], Status::Usage, b"usage\n"),
         (&["play", "2", "0", "1"], Status::Refused, b"refused 6\n"),
