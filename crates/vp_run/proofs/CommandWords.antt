@@ -181,7 +181,6 @@ task_read (Play coin seed games) is =
     ap (λ o. option_map Over (o >>= λ a. number_of (decimal seed) >>= λ b. number_within 1 100000 (decimal games) >>= λ c. Some (Play a b c))) f
     ∙ ap (λ o. option_map Over (o >>= λ b. number_within 1 100000 (decimal games) >>= λ c. Some (Play coin b c))) s
     ∙ ap (λ o. option_map Over (o >>= λ c. Some (Play coin seed c))) n
-
 task_read (Compile coin millionths) is =
     let f = (number_within_exact 1 5 (omega arith)).again coin (is.some_coin, is.most_coin) in
     let n = (number_within_exact 0 1000000 (omega arith)).again millionths (omega arith, is.most) in

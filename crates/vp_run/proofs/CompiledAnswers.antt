@@ -218,9 +218,13 @@ module _ (p : Pooled) (is : IsPooled p) where
   told_plain : AllByRecursion IsPlainLine told_lines
   told_plain = (
     plain_told (codes "optimum") (sum_of_best p.table p.coin) under (plain_key (codes "optimum") (omega arith) refl) best_low under_fits,
-    (plain_told (codes "start") (loss p.table p.coin (ordered_list p.pool (first_places p))) under (plain_key (codes "start") (omega arith) refl) (loss_low _) under_fits,
-    (plain_told (codes "settled") (loss p.table p.coin (ordered_list p.pool (last_places p))) under (plain_key (codes "settled") (omega arith) refl) (loss_low _) under_fits,
-    (plain_told (codes "loss") (loss p.table p.coin (printed_list p)) under (plain_key (codes "loss") (omega arith) refl) (loss_low _) under_fits, tt))),
+    (
+      plain_told (codes "start") (loss p.table p.coin (ordered_list p.pool (first_places p))) under (plain_key (codes "start") (omega arith) refl) (loss_low _) under_fits,
+      (
+        plain_told (codes "settled") (loss p.table p.coin (ordered_list p.pool (last_places p))) under (plain_key (codes "settled") (omega arith) refl) (loss_low _) under_fits,
+        (plain_told (codes "loss") (loss p.table p.coin (printed_list p)) under (plain_key (codes "loss") (omega arith) refl) (loss_low _) under_fits, tt),
+      ),
+    ),
   )
 
   said_read : (more : List ℕ) → text_of (feed_of (written (said_lines p) ++ more)).lines ≡ text_of (feed_of more).lines
@@ -229,9 +233,13 @@ module _ (p : Pooled) (is : IsPooled p) where
   told_short : AllByRecursion (λ words. room words < 100) (commented told_lines)
   told_short = (
     comment_room (codes "optimum") (sum_of_best p.table p.coin) under (omega arith) best_low under_fits,
-    (comment_room (codes "start") (loss p.table p.coin (ordered_list p.pool (first_places p))) under (omega arith) (loss_low _) under_fits,
-    (comment_room (codes "settled") (loss p.table p.coin (ordered_list p.pool (last_places p))) under (omega arith) (loss_low _) under_fits,
-    (comment_room (codes "loss") (loss p.table p.coin (printed_list p)) under (omega arith) (loss_low _) under_fits, tt))),
+    (
+      comment_room (codes "start") (loss p.table p.coin (ordered_list p.pool (first_places p))) under (omega arith) (loss_low _) under_fits,
+      (
+        comment_room (codes "settled") (loss p.table p.coin (ordered_list p.pool (last_places p))) under (omega arith) (loss_low _) under_fits,
+        (comment_room (codes "loss") (loss p.table p.coin (printed_list p)) under (omega arith) (loss_low _) under_fits, tt),
+      ),
+    ),
   )
 
   said_short : length (written (said_lines p)) ≤ 400
@@ -246,10 +254,10 @@ module _ (p : Pooled) (is : IsPooled p) where
       let list : Text = list_text p.table (printed_list p) in
       written_read (table_text p.table) (written (compile_lines p)) (plain_table p.table is.bet.rules)
       ∙ ap (λ (text : Text). table_text p.table ++ text) (
-        ap (λ (bytes : List ℕ). text_of (feed_of bytes).lines) (flat_map-append line_of (said_lines p) list ∙ ap (λ (bytes : List ℕ). written (said_lines p) ++ bytes) (sym (append-nil (written list))))
-        ∙ said_read (written list ++ [])
-        ∙ written_read list [] (plain_list p.table (printed_list p) is.bet.rules listed_is)
-        ∙ append-nil list
+      ap (λ (bytes : List ℕ). text_of (feed_of bytes).lines) (flat_map-append line_of (said_lines p) list ∙ ap (λ (bytes : List ℕ). written (said_lines p) ++ bytes) (sym (append-nil (written list))))
+      ∙ said_read (written list ++ [])
+      ∙ written_read list [] (plain_list p.table (printed_list p) is.bet.rules listed_is)
+      ∙ append-nil list
       )
 
   file_says : audit_input p.coin file ≡ Ok (p.table, printed_list p)

@@ -98,8 +98,7 @@ impl CompileJob {
             .take_as_it_is(classes * self.pool.rules().len())
             .unwrap();
         let game = Game::of(&self.table, self.coin, words);
-        let Ok(compiled) =
-            self.compiled::<Brand>(alloc, &game, heads, cells, owner, Blank::new(1))
+        let Ok(compiled) = self.compiled::<Brand>(alloc, &game, heads, cells, owner, Blank::new(1))
         else {
             return Err(PutStop::NoMemory);
         };
