@@ -76,7 +76,15 @@ fn log_of<L: Ledger>(
     let mut text = Vec::new(alloc);
     push_start(&mut text, start)?;
     let mut steps = Steps::<L>::new(blank);
-    push_games(&mut text, game, start, seed, games, &mut payments, &mut steps)?;
+    push_games(
+        &mut text,
+        game,
+        start,
+        seed,
+        games,
+        &mut payments,
+        &mut steps,
+    )?;
     text.extend_from_slice(b"end\n")?;
     Ok(text)
 }

@@ -114,7 +114,6 @@ impl PlayJob {
         let deck = self.table.deck;
         Log::read(&mut Lines::new(text), deck).unwrap()
     }
-
 }
 
 /// Puts a seed and a number of games, and the numbers of a log with cards of a deck of so many.

@@ -5,9 +5,11 @@ use crate::{Status, region_words};
 use std::test::*;
 use vp_pay::samples::{ONE_JOKER, ZERO};
 
-// The words of two tables of sums, for decks of 52 and of 53 cards.
+/// The words of two tables of sums for a deck of 52 cards.
 const TWO_TABLES: usize = 2 * 2_893_164;
-const TWO_LARGER: usize = 2 * 3_187_368;
+
+/// The same for 53 cards.
+const TWO_LARGER_TABLES: usize = 2 * 3_187_368;
 
 // Reckoned by a program of its own. Of nine games two throw the joker's chance away: they hold cards by any mask.
 #[test]
@@ -22,13 +24,13 @@ fn logs_of_a_number(rt: HostRuntime) -> Result<(), Fail> {
         (
             ONE_JOKER,
             &["play", "1", "18446744073709551615", "1"],
-            TWO_LARGER,
+            TWO_LARGER_TABLES,
             b"play 18446744073709551615 1\ngames 1\nbet 1\npaid 0\ncredits 0\nslips 0\nloss 0 / 8561520\n",
         ),
         (
             ONE_JOKER,
             &["play", "1", "18446744073709551615", "9"],
-            TWO_LARGER,
+            TWO_LARGER_TABLES,
             b"play 18446744073709551615 9\ngames 9\nbet 9\npaid 0\ncredits 0\nslips 2\nloss 891825 / 8561520\n",
         ),
     ];
@@ -49,7 +51,11 @@ fn what_play_does_not_take(rt: HostRuntime) -> Result<(), Fail> {
         (&["play", "1", "0", "0"], Status::Usage, b"usage\n"),
         (&["play", "1", "0", "100001"], Status::Usage, b"usage\n"),
         (&["play", "6", "0", "1"], Status::Usage, b"usage\n"),
-        (&["play", "1", "18446744073709551616", "1"], Status::Usage, b"usage\n"),
+        (
+            &["play", "1", "18446744073709551616", "1"],
+            Status::Usage,
+            b"usage\n",
+        ),
         (&["play", "1", "00", "1"], Status::Usage, b"usage\n"),
         (&["play", "1", "0", "1", "1"], Status::Usage, b"usage\n"),
         (&["play", "2", "0", "1"], Status::Refused, b"refused 6\n"),
