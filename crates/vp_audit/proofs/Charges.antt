@@ -1,5 +1,5 @@
 -- What a list is charged for a deal is at most the best value.
-use Rattle.std.proofs.Common.{◌≡◌, ℕ, ◌<◌, ◌≤◌, Bool, true, false, cond, List, [], ◌∷◌, refl, sym, ap, subst, ◌∙◌, arith, Some, None, Option, inl, inr}
+use Rattle.std.proofs.Common.{◌≡◌, ℕ, ◌<◌, ◌≤◌, Bool, true, false, cond, List, [], ◌∷◌, refl, sym, ap, subst, ◌∙◌, arith, Some, None, Option, inl}
 use Rattle.std.specs.Prelude.{IfSome, filter, find, option_map, slice_index_or, ◌==◌}
 use Rattle.std.specs.List.{All}
 use Rattle.std.proofs.lemmas.List.Elements.{All-head, All-tail}
@@ -20,7 +20,7 @@ use Rattle.vp_audit.proofs.KeptValues.{filter_out, greatest_members, least_lower
 use Rattle.vp_audit.proofs.Lookups.{OneOf}
 use Rattle.vp_audit.proofs.SumsMore.{said}
 
-least_members : (f : ℕ → ℕ) (b : ℕ) (xs : List ℕ) → ((m : ℕ) → OneOf xs m → f m ≤ b) → least f xs ≤ b
+pub least_members : (f : ℕ → ℕ) (b : ℕ) (xs : List ℕ) → ((m : ℕ) → OneOf xs m → f m ≤ b) → least f xs ≤ b
 unfolding least
 least_members f b [] all = omega arith
 least_members f b (x ∷ []) all = all x (inl refl)

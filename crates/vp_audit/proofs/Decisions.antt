@@ -1,8 +1,7 @@
 -- What the rules make of a hand.
-use Rattle.std.proofs.Common.{◌≡◌, ℕ, Bool, true, false, List, [], ◌∷◌, get_or, refl, sym, ap, ◌∙◌, Some, None, Option, inl, inr}
-use Rattle.std.specs.Prelude.{filter, position, ◌||◌}
+use Rattle.std.proofs.Common.{◌≡◌, ℕ, Bool, true, false, List, [], ◌∷◌, get_or, refl, sym, ◌∙◌, Some, None, inl, inr}
+use Rattle.std.specs.Prelude.{filter, position}
 use Rattle.std.specs.List.{list_any}
-use Rattle.std.proofs.Math.Path.{fun_ext}
 use Rattle.std.proofs.lemmas.Bool.{cases_Bool, false≢true}
 use Rattle.std.proofs.lemmas.List.Quantifiers.{position-Some}
 use Rattle.vp_rank.specs.Bounded.{some_below}
@@ -23,7 +22,7 @@ unfolding deciding masks some_below
 deciding_is table rules hand = refl
 
 -- where no number passes, none is left
-any_filter : (p : ℕ → Bool) (xs : List ℕ) → filter p xs ≡ [] → list_any p xs ≡ false
+pub any_filter : (p : ℕ → Bool) (xs : List ℕ) → filter p xs ≡ [] → list_any p xs ≡ false
 any_filter p [] none = refl
 any_filter p (x ∷ xs) none = elim (cases_Bool (p x)) [
   | inl hit ↦ absurd (let some : filter p (x ∷ xs) ≡ x ∷ filter p xs = rw hit refl in cc)

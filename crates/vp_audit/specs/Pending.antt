@@ -1,5 +1,5 @@
 -- The exceptions that are left, of which the first may be that of the next class.
-use Rattle.std.specs.Prelude.{ℕ, Bool, true, false, if◌then◌else◌, ◌==◌, List, [], ◌∷◌, Option, Some, None}
+use Rattle.std.specs.Prelude.{ℕ, Bool, true, false, if◌then◌else◌, ◌==◌, is_some, List, [], ◌∷◌, ◌++◌, Option, Some, None, option_to_list}
 use Rattle.vp_sets.specs.Index.{set_index}
 use Rattle.vp_rule.specs.Lists.{Exception}
 
@@ -13,3 +13,11 @@ abbrev pub behind_head : Bool → List Exception → List Exception
 behind_head b [] = []
 behind_head true (e ∷ es) = es
 behind_head false (e ∷ es) = e ∷ es
+
+-- the exceptions that are left, with the one ahead in front
+abbrev pub pending : Option Exception → List Exception → List Exception
+pending ahead rest = option_to_list ahead ++ rest
+
+-- what is left of them behind a class
+abbrev pub pending_behind : List ℕ → Option Exception → List Exception → List Exception
+pending_behind cards ahead rest = behind_head (is_some (head_mask ahead cards)) (pending ahead rest)

@@ -1,20 +1,20 @@
 //! The 32 holds of a hand with their values, and what rules and exceptions make of them.
 
-ghost use Rattle.std.specs.Prelude.{◌≡◌, ◌+◌, ◌<◌, ◌≤◌, IfSome, None, length, max, position, true};
-ghost use Rattle.vp_card.specs.Cards.{in_deck};
-ghost use Rattle.vp_rank.specs.Bounded.{some_below};
-ghost use Rattle.vp_draws.specs.Draws.{best, greatest, value};
+ghost use Rattle.std.specs.Prelude.{◌≡◌, ◌+◌, ◌<◌, ◌≤◌, IfSome, None, length, map, max, position};
+ghost use Rattle.vp_suit.specs.Classes.{IsDeal};
+ghost use Rattle.vp_draws.specs.Draws.{best, value};
 ghost use Rattle.vp_rule.specs.Holds.{matches};
-ghost use Rattle.vp_audit.specs.Choices.{least_or_empty, widened};
+ghost use Rattle.vp_audit.specs.Choices.{asked_size, greatest_matched, has_size, least_matched, matches_some, widened};
+ghost use Rattle.vp_audit.specs.Compiled.{rule_cell};
 ghost use Rattle.vp_audit.specs.Sums.{priced};
-ghost use Rattle.vp_audit.specs.Values.{deciding, matched};
+ghost use Rattle.vp_audit.specs.Values.{deciding};
 
 use crate::priced::{Decided, Priced};
 use std::marker::Model;
 use std::sync::ledger::Ledger;
 use vp_card::Hand;
 use vp_hold::Game;
-use vp_rule::{Holds, Rule};
+use vp_rule::{Holds, Rule, Test};
 use vp_wild::Steps;
 
 /// The holds of a hand, with the values that they have for a bet; the place of each value is the mask.
@@ -26,15 +26,13 @@ pub(crate) struct Choices<'a> {
 }
 
 impl<'a> Model for Choices<'a> {
-    ghost use Rattle.std.specs.Prelude.{◌≡◌, map};
-    ghost use Rattle.vp_draws.specs.Draws.{masks, value};
-    ghost use Rattle.vp_audit.specs.Choices.{BetHand};
+    ghost use Rattle.vp_audit.specs.Choices.{AreChoices, BetHand};
 
     ghost Value = { BetHand };
 
     ghost view = { λ c. record { table = c.holds.table; coin = c.coin; hand = c.holds.hand } };
 
-    ghost invariant = { λ c. c.values ≡ map (value c.holds.table c.coin c.holds.hand) masks };
+    ghost invariant = { λ c. AreChoices c.holds.table c.coin c.holds.hand c.values };
 }
 
 impl<'a> Choices<'a> {
@@ -44,7 +42,7 @@ impl<'a> Choices<'a> {
         hand: &Hand,
         steps: &mut Steps<L>,
     ) -> Choices<'a>
-        requires cards { in_deck game.now.table.deck hand.now ≡ true }
+        requires deal { IsDeal game.now.table.deck hand.now }
         ensures table { result.table ≡ game.now.table }
         ensures coin { result.coin ≡ game.now.coin }
         ensures hand { result.hand ≡ hand.now }
@@ -115,19 +113,48 @@ impl<'a> Choices<'a> {
 
     /// The least and the greatest value of the holds that the rule matches; the greatest number and 0 where it matches none.
     fn extremes(&self, rule: &Rule) -> (u64, u64)
-        ensures least { result.0 ≡ least_or_empty (value self.now.table self.now.coin self.now.hand) (matched self.now.table rule.now self.now.hand) }
-        ensures greatest { result.1 ≡ greatest (value self.now.table self.now.coin self.now.hand) (matched self.now.table rule.now self.now.hand) }
+        ensures least { result.0 ≡ least_matched self.now rule.now }
+        ensures greatest { result.1 ≡ greatest_matched self.now rule.now }
     {
+        let size = asked_size(rule);
         let mut extremes = (u64::MAX, 0);
         for mask in 0..32u8 {
-            let counts = self.holds.is_matched(rule, mask);
+            let counts = self.is_matched(rule, size, mask);
             extremes = widened(extremes, counts, self.value(mask));
         }
         extremes
     }
 
+    /// Whether the rule matches the hold `mask`. `size` is the number of cards that its first test asks for: it tells
+    /// most holds apart before any test is asked.
+    fn is_matched(&self, rule: &Rule, size: Option<u8>, mask: u8) -> bool
+        requires size { size ≡ asked_size rule.now.tests.items }
+        requires mask { mask < 32 }
+        ensures { result ≡ matches self.now.table rule.now self.now.hand mask }
+    {
+        let holds = &self.holds;
+        has_size(size, mask) && holds.is_matched(rule, mask)
+    }
+
+    /// Writes what each rule gives the hand.
+    pub(crate) fn fill_cells(&self, rules: &[Rule], cells: &mut [u64])
+        requires { length cells.old ≡ length rules.now }
+        ensures { cells.new ≡ map (rule_cell self.now.table self.now.coin self.now.hand) rules.now }
+    {
+        for (place, rule) in rules.iter().enumerate() {
+            cells[place] = self.cell(rule);
+        }
+    }
+
+    /// What the rule gives the hand: the least value of the holds that it matches; the greatest number where it matches none.
+    fn cell(&self, rule: &Rule) -> u64
+        ensures { result ≡ rule_cell self.now.table self.now.coin self.now.hand rule.now }
+    {
+        self.extremes(rule).0
+    }
+
     /// The greatest of the values.
-    fn best(&self) -> u64
+    pub(crate) fn best(&self) -> u64
         ensures { result ≡ best self.now.table self.now.coin self.now.hand }
     {
         let mut best = 0;
@@ -138,7 +165,7 @@ impl<'a> Choices<'a> {
     }
 
     /// The value of the hold `mask`.
-    fn value(&self, mask: u8) -> u64
+    pub(crate) fn value(&self, mask: u8) -> u64
         requires { mask < 32 }
         ensures { result ≡ value self.now.table self.now.coin self.now.hand mask }
     {
@@ -148,10 +175,30 @@ impl<'a> Choices<'a> {
 
 /// The place of the first rule that matches some of the holds.
 fn first_matching(holds: &Holds, rules: &[Rule]) -> Option<usize>
-    ensures place { result ≡ position (λ rule. some_below 32 (λ mask. matches holds.now.table rule holds.now.hand mask)) rules.now }
+    ensures place { result ≡ position (matches_some holds.now.table holds.now.hand) rules.now }
     ensures inside { IfSome result (λ i. i < length rules.now) }
 {
     rules.iter().position(|rule| holds.some_is_matched(rule))
+}
+
+/// The number of cards that the first test of the rule asks for, where it asks for one.
+fn asked_size(rule: &Rule) -> Option<u8>
+    ensures { result ≡ asked_size rule.now.tests.items }
+{
+    match rule.tests.as_slice() {
+        [Test::Hold(size), ..] => Some(*size),
+        _ => None,
+    }
+}
+
+/// Whether the hold `mask` has so many cards, where a number is given.
+fn has_size(size: Option<u8>, mask: u8) -> bool
+    ensures { result ≡ has_size size mask }
+{
+    match size {
+        Some(size) => mask.count_ones() == u32::from(size),
+        None => true,
+    }
 }
 
 /// The least and the greatest of some values, with one value more where it counts.

@@ -1,26 +1,53 @@
 //! Laws of lists and their values, each the contract of a function that does nothing.
 
-ghost use Rattle.std.specs.Prelude.{◌≡◌, ◌↔◌, ℕ, ◌<◌, ◌≤◌, List, None, Some, slice_index_or};
-ghost use Rattle.vp_pay.specs.declared.table.PayTable.{PayTable};
-ghost use Rattle.vp_suit.specs.Classes.{IsDeal};
-ghost use Rattle.vp_suit.specs.Turns.{turn};
-ghost use Rattle.vp_rule.specs.Lists.{RuleList};
-ghost use Rattle.vp_rule.specs.declared.rule.Rule.{Rule};
-ghost use Rattle.vp_audit.specs.Laws.{Allows, IsLeastAllowed};
-ghost use Rattle.vp_audit.specs.Values.{decided, deciding, excepted, greatest_value, least_value, no_rule};
+ghost use Rattle.vp_audit.specs.Masked.{BestHoldsLoseLeast};
+ghost use Rattle.vp_audit.specs.Laws.{AllowedByClasses, CompiledAreLists, DealsAreSharedOut, DecidedByClasses, ExceptedLoseAsLists, ExceptionsChargeTheirHold, GreatestByClasses, LeastAndLossAreTheBest, LeastByClasses, LeastIsAtMostTheBest, LossIsSharedOut, NothingChargesHoldingNothing, OrdersLoseAsLists, RowsAreWorthTheBest, RulesAllowTheGreatest, RulesChargeTheLeast};
 
 /// The values of the holds that a rule matches are the same for all deals of a class, which are what the turns of the
 /// suits make of each other; and so is what decides a deal, and what a list is charged for it.
 pub fn rules_are_priced_by_classes()
-    ensures values { (t coin worth : ℕ) (table : PayTable) (rule : Rule) (cards : List ℕ) → 52 ≤ table.deck → t < 24 → IsDeal table.deck cards → Allows table coin rule (turn t cards) worth ↔ Allows table coin rule cards worth }
-    ensures decided { (t : ℕ) (table : PayTable) (list : RuleList) (cards : List ℕ) → 52 ≤ table.deck → t < 24 → IsDeal table.deck cards → decided table list (turn t cards) ≡ decided table list cards }
-    ensures least { (t coin : ℕ) (table : PayTable) (list : RuleList) (cards : List ℕ) → 52 ≤ table.deck → t < 24 → IsDeal table.deck cards → least_value table coin list (turn t cards) ≡ least_value table coin list cards }
-    ensures greatest { (t coin : ℕ) (table : PayTable) (list : RuleList) (cards : List ℕ) → 52 ≤ table.deck → t < 24 → IsDeal table.deck cards → greatest_value table coin list (turn t cards) ≡ greatest_value table coin list cards }
+    ensures values { AllowedByClasses }
+    ensures decided { DecidedByClasses }
+    ensures least { LeastByClasses }
+    ensures greatest { GreatestByClasses }
 {}
 
-/// Where no exception is one of a deal's class, and a rule is the first that matches some hold, the list is charged the
-/// least value among the holds that this rule matches.
+/// What a list is charged for a deal, in each of the three ways in which it is decided. Where an exception is one of the
+/// deal's class, it is the value of the exception's hold for the representative of the class. Else, where a rule is the
+/// first that matches some hold, it is the least value among the holds that this rule matches. Else it is the value of
+/// holding nothing. The greatest value of the deal is told so, too.
 pub fn lists_are_charged_the_least_value()
-    ensures { (table : PayTable) (coin : ℕ) (list : RuleList) (cards : List ℕ) (place : ℕ) → excepted list.exceptions cards ≡ None → deciding table list.rules cards ≡ Some place →
-        IsLeastAllowed table coin (slice_index_or list.rules place no_rule) cards (least_value table coin list cards) }
+    ensures exceptions { ExceptionsChargeTheirHold }
+    ensures rules { RulesChargeTheLeast }
+    ensures greatest { RulesAllowTheGreatest }
+    ensures nothing { NothingChargesHoldingNothing }
+{}
+
+/// The loss of a list is what the least values of all deals fall short of their best values; no deal's least value exceeds
+/// its best one. The tallies share it out: the deals of the exceptions, of the rules and of no rule sum to the number of
+/// all deals, and what the list loses on them sums to the loss.
+pub fn losses_are_shared_out()
+    ensures below { LeastIsAtMostTheBest }
+    ensures worth { LeastAndLossAreTheBest }
+    ensures deals { DealsAreSharedOut }
+    ensures losses { LossIsSharedOut }
+{}
+
+/// What an order of a pool's rules loses in the pool's matrix is what the list of the rules in this order loses over all
+/// deals; and where the best holds of some classes are given, it is what that list loses with exceptions for them.
+pub fn orders_lose_as_lists()
+    ensures optimum { RowsAreWorthTheBest }
+    ensures loss { OrdersLoseAsLists }
+    ensures left { ExceptedLoseAsLists }
+{}
+
+/// The list of a pool's rules in an order, with exceptions for the classes at rising places, keeps the rules and limits
+/// of the list language.
+pub fn compiled_lists_are_lists()
+    ensures { CompiledAreLists }
+{}
+
+/// A list with exceptions for the classes at some places loses at least what it loses where these give the best holds.
+pub fn best_holds_lose_least()
+    ensures { BestHoldsLoseLeast }
 {}

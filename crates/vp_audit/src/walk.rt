@@ -6,7 +6,7 @@ ghost use Rattle.vp_suit.specs.Classes.{representatives};
 ghost use Rattle.vp_pay.specs.Table.{IsTable};
 ghost use Rattle.vp_rule.specs.Valid.{IsList};
 ghost use Rattle.vp_audit.specs.Audits.{audited};
-ghost use Rattle.vp_audit.specs.Pending.{behind_head, head_mask};
+ghost use Rattle.vp_audit.specs.Pending.{head_mask, pending, pending_behind};
 ghost use Rattle.vp_audit.specs.Sums.{sums_over};
 
 use crate::Audited;
@@ -66,7 +66,7 @@ fn walk<L: Ledger>(game: &Game, list: &List, steps: &mut Steps<L>) -> Sums
 fn take_mask(ahead: &mut Option<(Hand, u8)>, exceptions: &mut Exceptions, hand: &Hand) -> Option<u8>
     requires ended { IfNone ahead.old (exceptions.old ≡ []) }
     ensures mask { result ≡ head_mask ahead.old hand.now }
-    ensures left { behind_head (is_some (head_mask ahead.old hand.now)) (option_to_list ahead.old ++ exceptions.old) ≡ option_to_list ahead.new ++ exceptions.new }
+    ensures left { pending_behind hand.now ahead.old exceptions.old ≡ pending ahead.new exceptions.new }
     ensures ended { IfNone ahead.new (exceptions.new ≡ []) }
 {
     let mask = head_mask(ahead, hand);

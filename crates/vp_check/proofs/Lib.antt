@@ -3,6 +3,7 @@ pub mod Classes_grammar
 pub mod KeptRules
 pub mod TrueOnes
 pub mod EveryDeals
+pub mod JoinedWalks
 pub mod Listed_grammar
 pub mod Read_grammar
 pub mod Lines_grammar

@@ -8,5 +8,6 @@ pub mod Rules
 pub mod Spelling
 pub mod Truth
 pub mod EveryDeal
+pub mod Parts
 pub mod Walks
 pub mod Answers

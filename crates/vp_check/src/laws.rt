@@ -7,6 +7,7 @@ ghost use Rattle.vp_pay.specs.declared.table.PayTable.{PayTable};
 ghost use Rattle.vp_check.specs.Certificates.{Certificate, IsCertificate};
 ghost use Rattle.vp_check.specs.EveryDeal.{TellsEveryDeal, TellsWalkedDeals};
 ghost use Rattle.vp_check.specs.Truth.{HasAllClasses, HasLeastBestMasks, IsTrueCertificate, IsTrueOver, KeepsRules, OfEachWalk, due_certificate};
+ghost use Rattle.vp_check.specs.Parts.{WalksJoin, WalksTellEveryDeal};
 
 /// What it says that no line of a certificate breaks a rule, where the class lines of a range are walked: its cards are all
 /// least images, rising by index, with their weights; walked lines have the best value and a best hold; and the return is that
@@ -34,6 +35,13 @@ pub fn true_certificates()
 #[tactic(auto, using(crate::proofs::EveryDeals::walked_tell))]
 pub fn walked_lines_tell_their_deals()
     ensures { (from count : ℕ) (c : Certificate) → IsCertificate c → IsTrueOver from count c → TellsWalkedDeals from count c }
+{}
+
+/// A certificate that is checked part by part, by one check or many: where none finds a broken rule, and each class line of
+/// a range is walked by some of them, the certificate is true over that range; where each class line is, it tells every deal.
+pub fn checks_join()
+    ensures range { WalksJoin }
+    ensures all { WalksTellEveryDeal }
 {}
 
 /// For each pay table and each bet that it has there is one true certificate with the least best masks.

@@ -20,7 +20,7 @@ pub use checker::check;
 pub use class_line::ClassLine;
 pub use finding::{CertRule, Checked, Finding};
 pub use laws::{
-    certificates_keep_rules, due_certificate_is_true, true_certificates,
+    certificates_keep_rules, checks_join, due_certificate_is_true, true_certificates,
     walked_lines_tell_their_deals,
 };
 pub use spellings::{

@@ -2,6 +2,8 @@
 
 ghost use Rattle.std.specs.Prelude.{◌≤◌};
 
+mod tried;
+
 use crate::Segment;
 use crate::hold_lines::{HoldLines, segments_of};
 use crate::piece::Piece;

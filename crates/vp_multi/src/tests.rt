@@ -4,6 +4,8 @@ ghost use Rattle.std.specs.Prelude.{◌≡◌, ◌≤◌, length};
 ghost use Rattle.vp_pay.specs.Bets.{IsBet};
 ghost use Rattle.vp_count.specs.Table.{first_word};
 
+mod pairs;
+
 use crate::{MomentSums, moments};
 use std::alloc::Global;
 use std::test::Fail;
@@ -62,5 +64,54 @@ fn variance_of_jacks(rt: HostRuntime) -> Result<(), Fail> {
         19_510_000 < variance && variance < 19_520_000,
         "{variance}"
     );
+    Ok(())
+}
+
+/// A joker pays the greatest payment.
+const JOKER: &[u8] = b"table joker
+deck 53
+wild none
+coins 1
+line joker wilds 1 either 500000
+end
+";
+
+/// All that wins pays the greatest payment, and each hand with a wild card wins.
+const EVERYTHING: &[u8] = b"table everything
+deck 53
+wild 2
+coins 1
+line pair pair any either 500000
+line flush flush either 500000
+line straight straight either 500000
+end
+";
+
+// The first as for two hands, a deal without the joker making 100 * 5 / 48 and 100 * 5 / 48 + 100 * 99 * (5 / 48) * (5 / 48)
+// times the payment and its square. Of the second a plain program tried all holds of all deals.
+#[test]
+fn greatest_payments(rt: HostRuntime) -> Result<(), Fail> {
+    for (text, due) in [
+        (
+            JOKER,
+            MomentSums {
+                mean: 231781750200000000000,
+                second: 55222245066260522250000000000000000,
+                within: 4444238326500472500000000000000,
+                between: 10347231220099827591037500000000000000,
+            },
+        ),
+        (
+            EVERYTHING,
+            MomentSums {
+                mean: 1137802509432000000000,
+                second: 458823889598447930040000000000000000,
+                within: 2852733073653020400000000000000,
+                between: 2126683862151900236955600000000000000,
+            },
+        ),
+    ] {
+        assert_eq!(rt; moments_of_text(rt.alloc(), text, 100)?, due);
+    }
     Ok(())
 }

@@ -43,7 +43,7 @@ pub fn cost(games: &Games, event: &Event) -> u64
     requires lawful { IsLawfulEvent games.now event.now }
     requires deck { is_of_deck games.now.deck event.now ≡ true }
     ensures value { result ≡ cost_of games.now event.now }
-    // No hold of the deal is worth more than the held cards and the cost together.
+    // No hold of the deal is worth more than the held cards and the cost together, and values are mean payments.
     ensures cost { IsCost games.now event.now result }
 {
     cost_at(games.game(event.bet), event)
@@ -58,6 +58,7 @@ pub fn cost_at(game: &Game, event: &Event) -> u64
     ensures value { result ≡ cost_of game.now.table event.now }
     ensures cost { IsCost game.now.table event.now result }
 {
+    let _table = game.table();
     let hand = Hand::of(event.deal).unwrap();
     let mask = mask_of(&hand, &event.hold);
     game.best(&hand).value - game.value(&hand, mask)

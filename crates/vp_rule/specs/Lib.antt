@@ -7,3 +7,4 @@ pub mod Matching
 pub mod Reading
 pub mod Spelling
 pub mod Valid
+pub mod Laws

@@ -70,7 +70,7 @@ done_true : (from count : ℕ) (c : Certificate) (feed : Feed) (broken : Option 
 done_true from count c feed None is done = is
 done_true from count c feed (Some b) is done = absurd (cc)
 
-check_true : (words : List Word) (from count : ℕ) (bytes : List ℕ) (c : Certificate) → command_of words ≡ Some (Over (Check from count)) → SpellsCertificate bytes c → (answer words bytes).status ≡ Done → IsTrueOver from count c
+pub check_true : (words : List Word) (from count : ℕ) (bytes : List ℕ) (c : Certificate) → command_of words ≡ Some (Over (Check from count)) → SpellsCertificate bytes c → (answer words bytes).status ≡ Done → IsTrueOver from count c
 check_true words from count bytes c is spells done =
     let same : answer_read job_text (check_read (check_result bytes from count)) ≡ answer words bytes = answer_as words (Some (Over (Check from count))) bytes is in
     let due : (answer_read job_text (check_read (verdict from count c (feed_of bytes) (first_break from count c)))).status ≡ Done =

@@ -92,11 +92,11 @@ first_at table game credits (e ∷ events) b is =
 
 -- ---- the answer
 
-costs_are : (table : PayTable) (credits : ℕ) (events : List Event) → AreLawfulGames table credits events → AllByRecursion (IsEvent table.deck) events → AllByRecursion (λ e. IsCost table e (cost_of table e)) events
-costs_are table credits [] games all = tt
-costs_are table credits (e ∷ events) games all = (cost_is table e (length-in_order e.deal ∙ all.0.deal) games.0.event.cards, costs_are table e.credits events games.1 all.1)
+costs_are : (table : PayTable) (credits : ℕ) (events : List Event) → IsTable table → AreLawfulGames table credits events → AllByRecursion (IsEvent table.deck) events → AllByRecursion (λ e. IsCost table e (cost_of table e)) events
+costs_are table credits [] known games all = tt
+costs_are table credits (e ∷ events) known games all = (cost_is table e known all.0.cards (length-in_order e.deal ∙ all.0.deal) games.0.event.cards, costs_are table e.credits events known games.1 all.1)
 
-judged : (table : PayTable) (log : LogValue) → IsLog table.deck log → (o : Option Broken) → break_in table log ≡ o → (due : Answer) → answer_read job_text (judged_log table log o) ≡ due
+judged : (table : PayTable) (log : LogValue) → IsTable table × IsLog table.deck log → (o : Option Broken) → break_in table log ≡ o → (due : Answer) → answer_read job_text (judged_log table log o) ≡ due
     → TellsCosts table log due ⊎ NamesBreak table log due
 judged table log valid None none due is =
     let games = lawful_games table 1 log.start log.events none in
@@ -104,7 +104,7 @@ judged table log valid None none due is =
       status = ap (λ (a : Answer). a.status) (sym is);
       text = ap (λ (a : Answer). a.text) (sym is);
       lawful = games;
-      costs = costs_are table log.start log.events games valid.events;
+      costs = costs_are table log.start log.events valid.0 games valid.1.events;
     })
 judged table log valid (Some b) some due is = inr (record { broken = b; first = first_at table 1 log.start log.events b some; named = sym is })
 
@@ -115,4 +115,4 @@ replay_as words bytes table log is says = ap (λ r. answer_read job_text (log_re
 
 pub replays_tell : ReplaysTellCosts
 replays_tell words bytes table log is says =
-    judged table log (read_valid bytes table log says).1 (break_in table log) refl (answer words bytes) (replay_as words bytes table log is says)
+    judged table log (read_valid bytes table log says) (break_in table log) refl (answer words bytes) (replay_as words bytes table log is says)

@@ -3,6 +3,7 @@ pub mod Deal
 pub mod Certify
 pub mod Multi
 pub mod Play
+pub mod Compile
 pub mod Check
 pub mod Replay
 pub mod Meter
@@ -11,6 +12,9 @@ pub mod Audit
 pub mod Memory
 pub mod Arguments
 pub mod EveryDeal
+pub mod CheckedInParts
 pub mod Replayed
 pub mod Played
+pub mod PrintedLists
 pub mod Losses
+pub mod Moments

@@ -1,7 +1,7 @@
 //! The commands, as the words of the command line spell them.
 
 ghost use Rattle.std.specs.Prelude.{◌≡◌, ◌≤◌, ℕ, map, option_map, IfSome};
-ghost use Rattle.vp_run.specs.Commands.{AreInRange, InRange, alone, bet, check, coin_of, command_of, lines_of, task_of, meter, meter_of, hands_of, multi, play, play_of};
+ghost use Rattle.vp_run.specs.Commands.{AreInRange, InRange, alone, bet, check, coin_of, command_of, lines_of, task_of, meter, meter_of, hands_of, multi, play, play_of, compile, compile_of};
 ghost use Rattle.vp_run.specs.declared.command.Task.{Task};
 ghost use Rattle.vp_text.specs.Numbers.{number_within};
 
@@ -45,6 +45,12 @@ pub enum Task {
         coin: u8,
         seed: u64,
         games: u32,
+    },
+    /// `compile COIN MILLIONTHS`: a strategy list out of a pool, which loses at most so many millionths, 0 to 1000000, of
+    /// the denominator of the return, for a bet of 1 to 5 coins.
+    Compile {
+        coin: u8,
+        millionths: u32,
     },
 }
 
@@ -96,6 +102,7 @@ fn task_of(word: &str, numbers: &[&str]) -> Option<Task>
         "meter" => meter(numbers),
         "multi" => hands(numbers),
         "play" => play(numbers),
+        "compile" => compile(numbers),
         _ => None,
     }
 }
@@ -217,6 +224,30 @@ fn play_of(coin: &[u8], seed: &[u8], games: &[u8]) -> Option<Task>
         coin: coin as u8,
         seed,
         games,
+    })
+}
+
+/// A bet, and how much may be lost.
+fn compile(numbers: &[&str]) -> Option<Task>
+    ensures is { result ≡ compile (map (λ w. w.now) numbers.now) }
+    ensures range { IfSome result InRange }
+{
+    match numbers {
+        [coin, millionths] => compile_of(coin.as_bytes(), millionths.as_bytes()),
+        _ => None,
+    }
+}
+
+/// The bet and the millionths that two words spell.
+fn compile_of(coin: &[u8], millionths: &[u8]) -> Option<Task>
+    ensures is { result ≡ compile_of coin.now millionths.now }
+    ensures range { IfSome result InRange }
+{
+    let coin = number_within(1, 5, coin)?;
+    let millionths = number_within(0, 1_000_000, millionths)?;
+    Some(Task::Compile {
+        coin: coin as u8,
+        millionths,
     })
 }
 

@@ -3,7 +3,7 @@
 ghost use Rattle.std.specs.Prelude.{◌≡◌, ◌≤◌, length};
 ghost use Rattle.vp_loggram.specs.Logs.{IsLog};
 ghost use Rattle.vp_pay.specs.Table.{IsTable};
-ghost use Rattle.vp_run.specs.Answer.{certify_job, check_read, deal_job, job_of, log_read, read_as, replay_read, meter_job, audit_job, multi_job, play_job};
+ghost use Rattle.vp_run.specs.Answer.{certify_job, check_read, deal_job, job_of, log_read, read_as, replay_read, meter_job, audit_job, multi_job, play_job, compile_job};
 ghost use Rattle.vp_run.specs.Audit.{audit_input};
 ghost use Rattle.vp_run.specs.Certify.{certify_input};
 ghost use Rattle.vp_run.specs.Commands.{InRange};
@@ -12,11 +12,13 @@ ghost use Rattle.vp_run.specs.Replay.{replay_input};
 ghost use Rattle.vp_run.specs.Meter.{meter_input};
 ghost use Rattle.vp_run.specs.Multi.{multi_input};
 ghost use Rattle.vp_run.specs.Play.{play_input};
+ghost use Rattle.vp_run.specs.Compile.{compile_input};
 
 use crate::audit::{AuditJob, read_audit_input};
 use crate::certify::{CertifyJob, read_certify_input};
 use crate::check::{put_checked, rule_of};
 use crate::command::Task;
+use crate::compile::{CompileJob, read_compile_input};
 use crate::deal::{DealJob, read_deal_input};
 use crate::meter::{MeterJob, read_meter_input};
 use crate::multi::MultiJob;
@@ -41,6 +43,7 @@ pub enum Job<'a> {
     Meter(MeterJob),
     Multi(MultiJob),
     Play(PlayJob),
+    Compile(CompileJob),
 }
 
 impl<'a> Work for Job<'a> {
@@ -63,6 +66,7 @@ impl<'a> Work for Job<'a> {
             Job::Meter(job) => job.words(),
             Job::Multi(job) => job.words(),
             Job::Play(job) => job.words(),
+            Job::Compile(job) => job.words(),
         }
     }
 
@@ -75,7 +79,7 @@ impl<'a> Work for Job<'a> {
             Job::Replay(job) => job.put(region, sink),
             Job::Meter(job) => job.put(region, sink),
             Job::Multi(job) => job.put(region, sink),
-            Job::Play(_) => unreachable!(),
+            Job::Play(_) | Job::Compile(_) => unreachable!(),
         }
     }
 
@@ -87,6 +91,7 @@ impl<'a> Work for Job<'a> {
     ) -> Result<(), PutStop> {
         match self {
             Job::Play(job) => job.put(alloc, region, sink),
+            Job::Compile(job) => job.put(alloc, region, sink),
             _ => match self.put(region, sink) {
                 Ok(()) => Ok(()),
                 Err(WriteFault) => Err(PutStop::WriteFault),
@@ -110,6 +115,7 @@ pub(crate) fn job_of(task: Task, bytes: &[u8]) -> Result<Job<'_>, Stop>
         Task::Meter { coin, line, lo, hi } => meter_job(coin, &line, lo, hi, bytes),
         Task::Multi { coin, hands } => multi_job(coin, hands, bytes),
         Task::Play { coin, seed, games } => play_job(coin, seed, games, bytes),
+        Task::Compile { coin, millionths } => compile_job(coin, millionths, bytes),
     }
 }
 
@@ -170,6 +176,18 @@ fn play_job(coin: u8, seed: u64, games: u32, bytes: &[u8]) -> Result<Job<'_>, St
 {
     match read_certify_input(bytes, coin) {
         Ok(table) => Ok(Job::Play(PlayJob::new(table, coin, seed, games))),
+        Err(refused) => Err(Stop::Refused { line: refused.line }),
+    }
+}
+
+fn compile_job(coin: u8, millionths: u32, bytes: &[u8]) -> Result<Job<'_>, Stop>
+    requires some { 1 ≤ coin }
+    requires most { millionths ≤ 1000000 }
+    requires limit { length bytes.now ≤ 67108864 }
+    ensures { result ≡ read_as (compile_job coin millionths) (compile_input coin bytes.now) }
+{
+    match read_compile_input(bytes, coin) {
+        Ok((table, pool)) => Ok(Job::Compile(CompileJob::new(table, coin, millionths, pool))),
         Err(refused) => Err(Stop::Refused { line: refused.line }),
     }
 }

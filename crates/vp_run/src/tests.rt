@@ -3,6 +3,7 @@
 mod audit;
 mod certify;
 mod check;
+mod compile;
 mod deal;
 mod faults;
 mod meter;

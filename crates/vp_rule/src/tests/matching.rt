@@ -37,7 +37,7 @@ fn asked<L: Ledger>(
 }
 
 /// The hand of a deal line.
-fn hand_of(deal: &[u8], deck: u8) -> Option<Hand>
+pub(super) fn hand_of(deal: &[u8], deck: u8) -> Option<Hand>
     requires short { length deal.now ≤ 67108864 }
     requires deck { IsDeck deck }
 {

@@ -65,7 +65,7 @@ fn first_and_last_lines(rt: HostRuntime) -> Result<(), Fail> {
     Ok(())
 }
 
-// Each line is that of a list of version 2, and of one of version 1.
+// Each line is taken in a list of version 2, and in one of version 1; else it is the line that is refused.
 #[test]
 fn rule_lines(rt: HostRuntime) -> Result<(), Fail> {
     let table = PayTable::in_text(ONE_JOKER).ok_or("a table")?;
@@ -106,12 +106,12 @@ fn rule_lines(rt: HostRuntime) -> Result<(), Fail> {
         text.try_extend_from_slice(b"list\n")?;
         text.try_extend_from_slice(line)?;
         text.try_extend_from_slice(b"\nend\n")?;
-        assert_eq!(rt; refused_list(&table, &text) == 0, first);
+        assert_eq!(rt; refused_list(&table, &text), if first { 0 } else { 2 });
         let mut text = ArrayVec::<u8, 128>::new();
         text.try_extend_from_slice(b"list 2\n")?;
         text.try_extend_from_slice(line)?;
         text.try_extend_from_slice(b"\nend\n")?;
-        assert_eq!(rt; refused_list(&table, &text) == 0, second);
+        assert_eq!(rt; refused_list(&table, &text), if second { 0 } else { 2 });
     }
     Ok(())
 }

@@ -59,7 +59,7 @@ fn logs_of_a_table_with_a_joker(rt: HostRuntime) -> Result<(), Fail> {
 // Logs with a broken law, and texts that are no logs. None needs memory.
 #[test]
 fn logs_that_stop(rt: HostRuntime) -> Result<(), Fail> {
-    let cases: [(&[u8], Status, &[u8]); 16] = [
+    let cases: [(&[u8], Status, &[u8]); 19] = [
         // The third game breaks three laws.
         (
             b"log 100
@@ -115,6 +115,32 @@ end
             b"log 1\ngame 1 deal As Ks Qs Js 4s hold draw 2c 3c 4c 5c 7d pay 0 credits 18446744073709551615\nend\n",
             Status::Finding,
             b"finding 1 credits 18446744073709551615 0\n",
+        ),
+        // The greatest number, in place of a pay.
+        (
+            b"log 100\ngame 5 deal As Ks Qs Js 4s hold Js Qs Ks As draw Ts pay 18446744073709551615 credits 4095\nend\n",
+            Status::Finding,
+            b"finding 1 pay 18446744073709551615 4000\n",
+        ),
+        // Two games break a law, behind a lawful one; the law that the second breaks comes before that of the first.
+        (
+            b"log 100
+game 5 deal As Ks Qs Js 4s hold Js Qs Ks As draw Ts pay 4000 credits 4095
+game 5 deal As Ks Qs Js 4s hold As Ks Qs Js 4s draw pay 30 credits 4121
+game 6 deal As Ks Qs As 4s hold As Ks Qs Js 4s draw pay 30 credits 4120
+end
+",
+            Status::Finding,
+            b"finding 2 credits 4121 4120\n",
+        ),
+        // The session without its end.
+        (
+            b"log 100
+game 5 deal As Ks Qs Js 4s hold Js Qs Ks As draw Ts pay 4000 credits 4095
+game 5 deal As Ks Qs Js 4s hold As Ks Qs Js 4s draw pay 30 credits 4120
+",
+            Status::Refused,
+            b"refused 18\n",
         ),
         (
             b"log 1000000000001\nend\n",
