@@ -1,11 +1,10 @@
 -- The rows of a pool are those of a matrix.
-use Rattle.std.proofs.Common.{◌≡◌, ℕ, ◌*◌, ◌^◌, ◌<◌, ◌≤◌, List, [], ◌∷◌, map, length, get_or, refl, sym, ap, subst, ◌∙◌, arith, true, inl, inr, ◌⊎◌}
+use Rattle.std.proofs.Common.{◌≡◌, ℕ, ◌<◌, ◌≤◌, List, [], ◌∷◌, length, get_or, refl, sym, subst, arith, true, inl, inr}
 use Rattle.std.specs.Prelude.{filter}
 use Rattle.std.specs.List.{All}
-use Rattle.std.proofs.lemmas.List.Elements.{All-get_or, All-from_get_or, All-map, All-weaker}
-use Rattle.vp_card.specs.Cards.{in_deck}
+use Rattle.std.proofs.lemmas.List.Elements.{All-get_or, All-map, All-weaker}
 use Rattle.vp_sets.proofs.Denominators.{common_small}
-use Rattle.vp_suit.specs.Classes.{IsDeal, is_representative, representatives, weight}
+use Rattle.vp_suit.specs.Classes.{IsDeal, is_representative, representatives}
 use Rattle.vp_suit.proofs.ClassLaws.{representatives_only}
 use Rattle.vp_suit.proofs.TurnedDraws.{dealt_is}
 use Rattle.vp_suit.proofs.Weights.{weight_few}
@@ -17,10 +16,11 @@ use Rattle.vp_draws.proofs.Chosen.{value_le_best}
 use Rattle.vp_draws.proofs.Values.{value_is, value_le}
 use Rattle.vp_rule.specs.Holds.{matches}
 use Rattle.vp_rule.specs.declared.rule.Rule.{Rule}
-use Rattle.vp_compile.specs.Rows.{IsCell, IsRow}
+use Rattle.vp_compile.specs.Matrices.{rows_of}
+use Rattle.vp_compile.specs.Rows.{IsCell, IsRow, Row}
 use Rattle.vp_audit.specs.Choices.{empty, least_or_empty}
 use Rattle.vp_audit.specs.Compiled.{class_at, class_row, pool_rows, rule_cell}
-use Rattle.vp_audit.specs.Values.{least, matched}
+use Rattle.vp_audit.specs.Values.{matched}
 use Rattle.vp_audit.proofs.Charges.{least_members}
 use Rattle.vp_audit.proofs.KeptValues.{filter_out, mask_small}
 use Rattle.vp_audit.proofs.Lookups.{OneOf}
@@ -55,6 +55,10 @@ module _ (table : PayTable) (coin : ℕ) (known : IsTable table) where
     cells = All-map (IsCell (best table coin cards)) (rule_cell table coin cards) rules (λ k d l. cell_fits cards (get_or rules k d));
   }
 
-  pub rows_fit : (rules : List Rule) → All IsRow (pool_rows table coin rules)
+  rows_fit : (rules : List Rule) → All IsRow (pool_rows table coin rules)
   unfolding pool_rows
   rows_fit rules = All-map IsRow (class_row table coin rules) (representatives table.deck) (All-weaker (IsClass table.deck) (λ cards. IsRow (class_row table coin rules cards)) (λ cards is. row_fits rules cards is.0) (representatives table.deck) (representatives_only table.deck))
+
+  -- what holds them are the rows of a matrix
+  pub held_fit : (rules : List Rule) (weights bests nones cells : List ℕ) → rows_of (length rules) weights bests nones cells ≡ pool_rows table coin rules → All IsRow (rows_of (length rules) weights bests nones cells)
+  held_fit rules weights bests nones cells is = subst (λ (rows : List Row). All IsRow rows) (sym is) (rows_fit rules)

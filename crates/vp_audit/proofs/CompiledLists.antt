@@ -1,25 +1,23 @@
 -- Compiled lists are lists.
-use Rattle.std.proofs.Common.{◌≡◌, ℕ, zero, suc, ◌+◌, ◌-◌, ◌<◌, ◌≤◌, List, [], map, length, get_or, refl, sym, ap, subst, ◌∙◌, arith}
+use Rattle.std.proofs.Common.{◌≡◌, ℕ, zero, suc, ◌+◌, ◌-◌, ◌<◌, List, [], map, length, get_or, sym, ap, subst, ◌∙◌, arith}
 use Rattle.std.specs.List.{All}
 use Rattle.std.specs.List.Sorted.{IsStrictlyIncreasing}
 use Rattle.std.proofs.lemmas.List.{get_or-map, length-map}
 use Rattle.std.proofs.lemmas.List.Elements.{All-get_or, All-map, All-weaker}
-use Rattle.vp_card.specs.Rising.{IsRising}
 use Rattle.vp_card.proofs.Rising.{rising_from}
 use Rattle.vp_sets.specs.Index.{set_index}
 use Rattle.vp_suit.specs.Classes.{representatives}
 use Rattle.vp_suit.proofs.ClassLaws.{representatives_rise}
 use Rattle.vp_pay.specs.declared.table.PayTable.{PayTable}
-use Rattle.vp_draws.specs.Draws.{least_best}
 use Rattle.vp_draws.proofs.Chosen.{least_best_small}
 use Rattle.vp_rule.specs.Lists.{Exception, RulePool}
 use Rattle.vp_rule.specs.Valid.{IsException, IsList, IsPool, IsRule}
 use Rattle.vp_compile.specs.Excepted.{ArePlaces}
 use Rattle.vp_compile.specs.Matrices.{IsOrder}
 use Rattle.vp_compile.proofs.OrderLaws.{order_below, order_length}
-use Rattle.vp_audit.specs.Compiled.{best_exception, class_at, compiled_list, ordered}
+use Rattle.vp_audit.specs.Compiled.{best_exception, class_at, compiled_list}
 use Rattle.vp_audit.specs.Values.{no_rule}
-use Rattle.vp_audit.proofs.ClassRows.{IsClass, class_is}
+use Rattle.vp_audit.proofs.ClassRows.{class_is}
 
 -- numbers that rise from each to the next rise from each to each later one
 rise_far : (xs : List ℕ) → IsStrictlyIncreasing xs → (i n : ℕ) → i + n + 1 < length xs → get_or xs i 0 < get_or xs (i + n + 1) 0
@@ -43,8 +41,8 @@ classes_rise n i j h l =
 module _ (table : PayTable) (coin : ℕ) (pool : RulePool) (known : IsPool table pool) (order places : List ℕ) (whole : IsOrder (length pool.rules) order) (some : ArePlaces (length (representatives table.deck)) places) where
   exceptions_are : All (IsException table.deck) (map (best_exception table coin) places)
   exceptions_are = All-map (IsException table.deck) (best_exception table coin) places (All-weaker (λ place. place < length (representatives table.deck)) (λ place. IsException table.deck (best_exception table coin place)) (λ place l.
-    let class = class_is table.deck place l in
-    record { deal = class.0; representative = class.1; mask = least_best_small table coin (class_at table.deck place) }) places some.below)
+      let class = class_is table.deck place l in
+      record { deal = class.0; representative = class.1; mask = least_best_small table coin (class_at table.deck place) }) places some.below)
 
   index_at : (k : ℕ) → k < length places → get_or (map (λ (e : Exception). set_index e.0) (map (best_exception table coin) places)) k 0 ≡ set_index (class_at table.deck (get_or places k 0))
   index_at k l =

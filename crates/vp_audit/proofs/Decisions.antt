@@ -1,8 +1,7 @@
 -- What the rules make of a hand.
-use Rattle.std.proofs.Common.{◌≡◌, ℕ, Bool, true, false, List, [], ◌∷◌, get_or, refl, sym, ap, ◌∙◌, Some, None, Option, inl, inr}
-use Rattle.std.specs.Prelude.{filter, position, ◌||◌}
+use Rattle.std.proofs.Common.{◌≡◌, ℕ, Bool, true, false, List, [], ◌∷◌, get_or, refl, sym, ◌∙◌, Some, None, inl, inr}
+use Rattle.std.specs.Prelude.{filter, position}
 use Rattle.std.specs.List.{list_any}
-use Rattle.std.proofs.Math.Path.{fun_ext}
 use Rattle.std.proofs.lemmas.Bool.{cases_Bool, false≢true}
 use Rattle.std.proofs.lemmas.List.Quantifiers.{position-Some}
 use Rattle.vp_rank.specs.Bounded.{some_below}

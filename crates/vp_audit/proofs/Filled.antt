@@ -1,26 +1,30 @@
 -- Classes are written into a matrix one after another, by their places.
-use Rattle.std.proofs.Common.{◌≡◌, ℕ, suc, ◌+◌, ◌*◌, ◌-◌, ◌<◌, ◌≤◌, List, [], ◌∷◌, map, length, get_or, set, take, drop, slice_range, refl, sym, ap, subst, ◌∙◌, arith, true, inl, inr}
+use Rattle.std.proofs.Common.{◌≡◌, ℕ, ◌+◌, ◌*◌, ◌<◌, ◌≤◌, List, [], ◌∷◌, map, length, get_or, set, drop, slice_range, refl, sym, ap, subst, ◌∙◌, arith, inl, inr}
 use borrow.Rule.Slice.PartMut.{put_mid}
 use Rattle.std.proofs.lemmas.Bool.{cases_lt}
 use Rattle.std.proofs.lemmas.Nat.{rows}
-use Rattle.std.proofs.lemmas.List.{drop_all, drop_more, get_or-map, get_or-set_other, get_or-set_same, length-map, take-take}
+use Rattle.std.proofs.lemmas.List.{drop_all, drop_more, get_or-map, get_or-set_other, get_or-set_same, length-map}
 use Rattle.std.proofs.lemmas.Slice.{between_is, between-put_mid, take-put_mid_below}
-use Rattle.vp_card.specs.Cards.{in_deck}
-use Rattle.vp_suit.specs.Classes.{representatives, weight}
-use Rattle.vp_suit.proofs.TurnedDraws.{dealt_is}
+use Rattle.vp_suit.specs.Classes.{IsDeal, representatives, weight}
 use Rattle.vp_pay.specs.declared.table.PayTable.{PayTable}
 use Rattle.vp_draws.specs.Draws.{best, value}
 use Rattle.vp_rule.specs.declared.rule.Rule.{Rule}
-use Rattle.vp_compile.specs.Rows.{Row, no_row, row_at}
+use Rattle.vp_compile.specs.Rows.{Row, no_row}
 use Rattle.vp_compile.specs.Matrices.{row_of, rows_of}
 use Rattle.vp_compile.proofs.Places.{rows_are}
 use Rattle.vp_audit.specs.Choices.{BetHand}
 use Rattle.vp_audit.specs.Compiled.{class_at, class_row, pool_rows, rule_cell}
 use Rattle.vp_audit.proofs.ClassRows.{class_is}
 
--- a hand that is dealt for a bet, by its parts
-pub bet_hand : (h : BetHand) (table : PayTable) (coin : ℕ) (hand : List ℕ) → h.table ≡ table → h.coin ≡ coin → h.hand ≡ hand → h ≡ record { table = table; coin = coin; hand = hand }
-bet_hand h table coin hand t c is = rw (← t, ← c, ← is) refl
+-- what is told of a hand that is dealt for a bet
+pub record Told (table : PayTable) (coin : ℕ) (hand : List ℕ) (rules : List Rule) (top nothing : ℕ) (row : List ℕ) : Type 0 where
+  pub best : top ≡ best table coin hand
+  pub none : nothing ≡ value table coin hand 0
+  pub cells : row ≡ map (rule_cell table coin hand) rules
+
+pub told_of : (h : BetHand) (table : PayTable) (coin : ℕ) (hand : List ℕ) (rules : List Rule) (top nothing : ℕ) (row : List ℕ) → h.table ≡ table → h.coin ≡ coin → h.hand ≡ hand
+    → top ≡ best h.table h.coin h.hand → nothing ≡ value h.table h.coin h.hand 0 → row ≡ map (rule_cell h.table h.coin h.hand) rules → Told table coin hand rules top nothing row
+told_of h table coin hand rules top nothing row t c is b n cs = rw (← t, ← c, ← is) (record { best = b; none = n; cells = cs })
 
 -- the classes so far are written: those that are left are the others, by rising index
 pub record Filled (table : PayTable) (coin : ℕ) (rules : List Rule) (left : List (List ℕ)) (place : ℕ) (weights bests nones cells : List ℕ) (first steps : ℕ) : Type 0 where
@@ -70,8 +74,8 @@ module _ (table : PayTable) (coin : ℕ) (rules : List Rule) where
     more_are : more ≡ drop (place + 1) (representatives table.deck)
     more_are = cc front
 
-    pub in_deck_here : in_deck table.deck cards ≡ true
-    in_deck_here = subst (λ (x : List ℕ). in_deck table.deck x ≡ true) (sym class_here) (dealt_is table.deck (class_at table.deck place) (class_is table.deck place place_inside).0).of_deck
+    pub deal_here : IsDeal table.deck cards
+    deal_here = subst (IsDeal table.deck) (sym class_here) (class_is table.deck place place_inside).0
 
     module _ (room : HasRoom table rules weights bests nones cells) where
       pub cells_inside : place * length rules + length rules ≤ length cells
@@ -127,6 +131,6 @@ module _ (table : PayTable) (coin : ℕ) (rules : List Rule) where
       let whole : place ≡ length (representatives table.deck) = all_filled left place weights bests nones cells first steps is many so in
       let size : length (map (class_row table coin rules) (representatives table.deck)) ≡ length (representatives table.deck) = length-map (representatives table.deck) (class_row table coin rules) in (
         rows_are (length rules) weights bests nones cells (map (class_row table coin rules) (representatives table.deck)) (omega (arith, many, size)) (λ k l.
-        so.rows k (omega (arith, l, size, whole)) ∙ sym (get_or-map (class_row table coin rules) (representatives table.deck) k [] no_row (omega (arith, l, size)))),
+            so.rows k (omega (arith, l, size, whole)) ∙ sym (get_or-map (class_row table coin rules) (representatives table.deck) k [] no_row (omega (arith, l, size)))),
         omega (arith, so.counted, whole, many),
       )

@@ -1,5 +1,5 @@
 -- What decides a deal, and what the list is charged for it, are kept by turns.
-use Rattle.std.proofs.Common.{◌≡◌, ℕ, zero, suc, ◌+◌, ◌<◌, ◌≤◌, Bool, true, false, cond, List, [], ◌∷◌, map, length, refl, sym, ap, subst, ◌∙◌, arith, Some, None, Option, inl, inr, ◌⊎◌}
+use Rattle.std.proofs.Common.{◌≡◌, ℕ, zero, suc, ◌+◌, ◌<◌, ◌≤◌, Bool, true, false, cond, List, [], ◌∷◌, refl, sym, ap, subst, ◌∙◌, arith, Some, None, Option, inl, inr}
 use Rattle.std.proofs.Math.Path.{fun_ext}
 use Rattle.std.specs.Prelude.{◌==◌, ◌||◌, nat_le, position, filter, slice_index_or, option_map, find}
 use Rattle.std.specs.List.{list_any, range_with_len}
@@ -9,7 +9,7 @@ use Rattle.vp_rank.proofs.BoundedTests.{same_tests}
 use Rattle.vp_card.specs.Cards.{held, joined}
 use Rattle.vp_sets.specs.Index.{set_index}
 use Rattle.vp_sets.specs.Sets.{has}
-use Rattle.vp_suit.specs.Classes.{IsDeal, IsKept, representative}
+use Rattle.vp_suit.specs.Classes.{IsDeal, representative}
 use Rattle.vp_suit.specs.Turns.{carried, mask_of, turn}
 use Rattle.vp_suit.proofs.Group.{inverse, inverse_inside}
 use Rattle.vp_suit.proofs.Cards.{turn_back}
@@ -24,9 +24,8 @@ use Rattle.vp_rule.specs.Lists.{Exception, RuleList}
 use Rattle.vp_rule.specs.declared.rule.Rule.{Rule}
 use Rattle.vp_rule.proofs.TurnedRules.{matches_turned}
 use Rattle.vp_audit.specs.Values.{charged, decided, deciding, decision, excepted, greatest_value, least, least_value, matched, no_rule}
-use Rattle.vp_audit.specs.Audits.{is_ambiguous, is_by, lost, only}
+use Rattle.vp_audit.specs.Audits.{lost}
 use Rattle.vp_audit.specs.Laws.{Allows}
-use Rattle.vp_audit.specs.declared.priced.Decided.{Decided}
 use Rattle.vp_audit.proofs.Lookups.{OneOf}
 
 -- ---- members
@@ -218,6 +217,21 @@ unfolding greatest
 greatest_upper f [] m one = absurd one
 greatest_upper f (x ∷ xs) m (inl e) = let same : f m ≡ f x = ap f e in grind (arith, nat_tests)
 greatest_upper f (x ∷ xs) m (inr one) = let l = greatest_upper f xs m one in grind (arith, nat_tests)
+
+pub record Topped (f : ℕ → ℕ) (xs : List ℕ) : Type 0 where
+  pub at : ℕ
+  pub member : OneOf xs at
+  pub same : greatest f xs ≡ f at
+
+pub greatest_reached : (f : ℕ → ℕ) (x : ℕ) (xs : List ℕ) → Topped f (x ∷ xs)
+unfolding greatest
+greatest_reached f x [] = record { at = x; member = inl refl; same = grind (arith, nat_tests) }
+greatest_reached f x (y ∷ xs) =
+    let r = greatest_reached f y xs in
+    elim (cases_Bool (nat_le (greatest f (y ∷ xs)) (f x))) [
+      | inl le ↦ record { at = x; member = inl refl; same = grind (arith, nat_tests) }
+      | inr gt ↦ record { at = r.at; member = inr r.member; same = (let e : greatest f (x ∷ y ∷ xs) ≡ greatest f (y ∷ xs) = grind (arith, nat_tests) in e ∙ r.same) }
+    ]
 
 pub greatest_members : (f : ℕ → ℕ) (b : ℕ) (xs : List ℕ) → ((m : ℕ) → OneOf xs m → f m ≤ b) → greatest f xs ≤ b
 unfolding greatest

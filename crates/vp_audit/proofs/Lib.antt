@@ -7,10 +7,15 @@ pub mod Extremes
 pub mod Filled
 pub mod KeptValues
 pub mod LeastAllowed
+pub mod ListLines
 pub mod Lookups
+pub mod PassedClasses
+pub mod MaskedLists
 pub mod OrderLosses
 pub mod OrderValues
 pub mod PlaceSums
+pub mod Shares
+pub mod Sizes
 pub mod SoFar
 pub mod Start
 pub mod SumsMore

@@ -1,8 +1,7 @@
 -- What an order of a pool's rules loses, and what is left of it without some classes, are the losses of the lists that are made of them.
-use Rattle.std.proofs.Common.{◌≡◌, ℕ, zero, suc, ◌+◌, ◌*◌, ◌-◌, ◌<◌, ◌≤◌, Bool, true, false, cond, List, [], ◌∷◌, map, length, get_or, refl, sym, ap, subst, ◌∙◌, arith, Some, None, Option, inl, inr}
+use Rattle.std.proofs.Common.{◌≡◌, ℕ, ◌+◌, ◌*◌, ◌-◌, ◌<◌, ◌≤◌, Bool, true, false, cond, List, [], ◌∷◌, map, length, refl, sym, ap, ◌∙◌, arith, Some, None, Option, inl, inr}
 use Rattle.std.specs.Prelude.{◌==◌, ◌||◌, find, option_map}
 use Rattle.std.specs.List.{All, sum_by}
-use Rattle.std.proofs.Math.Nat.{mul-le-mul_left}
 use Rattle.std.proofs.lemmas.Bool.{eqb-true, eq-eqb, cases_lt}
 use Rattle.std.proofs.lemmas.List.{get_or-map, length-map}
 use Rattle.std.proofs.lemmas.List.Elements.{All-head, All-tail}
@@ -30,7 +29,7 @@ use Rattle.vp_compile.proofs.Sums.{rises, sum_from, sum_from_is}
 use Rattle.vp_audit.specs.Audits.{deals, loss, lost}
 use Rattle.vp_audit.specs.Compiled.{best_exception, class_at, class_row, compiled_list, ordered, ordered_list, pool_rows}
 use Rattle.vp_audit.specs.Sums.{priced, worth}
-use Rattle.vp_audit.specs.Values.{charged, deciding, decided, excepted, least, least_value}
+use Rattle.vp_audit.specs.Values.{charged, deciding, excepted, least, least_value}
 use Rattle.vp_audit.specs.declared.priced.Priced.{Priced}
 use Rattle.vp_audit.proofs.Charges.{excepted_small, priced_le, priced_said}
 use Rattle.vp_audit.proofs.ClassRows.{IsClass, class_is, value_small}
@@ -59,7 +58,8 @@ module _ (table : PayTable) (coin : ℕ) (list : RuleList) (big : 52 ≤ table.d
       let low = (priced_le table coin list.rules (excepted list.exceptions cards) cards p (excepted_small table.deck list.exceptions cards valid.exceptions) refl).0 in
       omega (arith, said, low)
 
-  parts : (xs : List (List ℕ)) → All (IsClass table.deck) xs → worth (lost table coin list) xs + worth (least_value table coin list) xs ≡ worth (best table coin) xs
+  -- what is lost on some classes, and the least values, are together the best values
+  pub parts : (xs : List (List ℕ)) → All (IsClass table.deck) xs → worth (lost table coin list) xs + worth (least_value table coin list) xs ≡ worth (best table coin) xs
   unfolding lost
   parts [] all = refl
   parts (x ∷ xs) all =

@@ -1,6 +1,6 @@
 -- The value that an order of a pool's rules gives a class is what the list of the rules in this order is charged for its representative.
-use Rattle.std.proofs.Common.{◌≡◌, ℕ, zero, suc, ◌+◌, ◌<◌, Bool, true, false, cond, List, [], ◌∷◌, map, length, get_or, refl, sym, ap, subst, ◌∙◌, arith, Some, None, Option, inl, inr}
-use Rattle.std.specs.Prelude.{◌==◌, nat_lt, not, position, option_map, filter}
+use Rattle.std.proofs.Common.{◌≡◌, ℕ, suc, ◌+◌, ◌<◌, Bool, true, false, cond, List, [], ◌∷◌, length, get_or, refl, sym, ap, subst, ◌∙◌, arith, Some, None, Option, inl, inr}
+use Rattle.std.specs.Prelude.{◌==◌, nat_lt, not, position, option_map}
 use Rattle.std.specs.List.{All, list_any, position_or_len}
 use Rattle.std.proofs.lemmas.Bool.{cases_lt}
 use Rattle.std.proofs.lemmas.Bool.Decides.{nat_tests}
@@ -10,7 +10,7 @@ use Rattle.vp_pay.specs.declared.table.PayTable.{PayTable}
 use Rattle.vp_draws.specs.Draws.{masks, value}
 use Rattle.vp_rule.specs.Holds.{matches}
 use Rattle.vp_rule.specs.declared.rule.Rule.{Rule}
-use Rattle.vp_compile.specs.Rows.{cell, full_or, list_value}
+use Rattle.vp_compile.specs.Rows.{full_or, list_value}
 use Rattle.vp_audit.specs.Choices.{empty, least_or_empty}
 use Rattle.vp_audit.specs.Compiled.{class_row, ordered, rule_cell}
 use Rattle.vp_audit.specs.Values.{charged, deciding, least, matched, no_rule}

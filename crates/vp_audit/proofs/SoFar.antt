@@ -1,17 +1,15 @@
 -- The classes so far.
-use Rattle.std.proofs.Common.{◌≡◌, ℕ, zero, suc, ◌+◌, ◌*◌, ◌-◌, ◌<◌, ◌≤◌, Bool, true, false, cond, List, [], ◌∷◌, ◌++◌, map, length, refl, sym, ap, subst, ◌∙◌, arith, Some, None, Option, inl, inr, append_assoc, length-append}
+use Rattle.std.proofs.Common.{◌≡◌, ℕ, ◌+◌, ◌*◌, ◌<◌, ◌≤◌, Bool, true, false, cond, List, [], ◌∷◌, ◌++◌, map, length, refl, sym, ap, subst, ◌∙◌, arith, Some, None, Option, inl, inr, append_assoc, length-append}
 use Rattle.std.specs.Prelude.{option_to_list, is_some, IfNone, IfSome, position, nat_lt}
 use Rattle.std.proofs.Math.Nat.{mul-le-mul_left}
 use Rattle.std.proofs.lemmas.Bool.{ltb-true}
-use Rattle.std.specs.List.{All, range_with_len, list_any, position_or_len}
+use Rattle.std.specs.List.{All, list_any, position_or_len}
 use Rattle.std.proofs.lemmas.List.{append-nil}
 use Rattle.std.proofs.lemmas.List.Elements.{All-head, All-tail}
-use Rattle.vp_card.specs.Cards.{in_deck}
 use Rattle.vp_card.specs.Rising.{IsRising}
 use Rattle.vp_sets.specs.Index.{set_index}
 use Rattle.vp_suit.specs.Classes.{IsDeal, is_representative, representative, representatives, weight}
 use Rattle.vp_suit.proofs.ClassLaws.{representatives_only, representative_own}
-use Rattle.vp_suit.proofs.TurnedDraws.{dealt_is}
 use Rattle.vp_pay.specs.declared.table.PayTable.{PayTable}
 use Rattle.vp_draws.specs.Draws.{masks}
 use Rattle.vp_rule.specs.Holds.{matches}
@@ -80,9 +78,9 @@ module _ (table : PayTable) (coin : ℕ) (list : RuleList) (big : 52 ≤ table.d
     own : representative cards ≡ cards
     own = representative_own table.deck cards big class.0 class.1
 
-    -- the next class is one of a hand of the table's deck
-    pub next_hand : in_deck table.deck cards ≡ true
-    next_hand = (dealt_is table.deck cards class.0).of_deck
+    -- the next class is one of a deal from the table's deck
+    pub next_deal : IsDeal table.deck cards
+    next_deal = class.0
 
     -- the mask of its exception is that of the exception ahead
     mask_is : excepted list.exceptions cards ≡ head_mask ahead cards

@@ -1,7 +1,7 @@
 -- The sums over classes, with one class more.
-use Rattle.std.proofs.Common.{◌≡◌, ℕ, zero, suc, ◌+◌, ◌-◌, ◌*◌, ◌<◌, ◌≤◌, Bool, true, false, cond, not, List, [], ◌∷◌, ◌++◌, map, length, refl, sym, ap, subst, ◌∙◌, arith, inl, inr, slice_set, get_or}
+use Rattle.std.proofs.Common.{◌≡◌, ℕ, zero, suc, ◌+◌, ◌-◌, ◌*◌, ◌<◌, ◌≤◌, Bool, true, false, List, [], ◌∷◌, ◌++◌, map, length, refl, sym, ap, ◌∙◌, arith, inl, inr, slice_set, get_or}
 use Rattle.std.specs.Prelude.{◌==◌}
-use Rattle.std.specs.List.{range_with_len, sum_by}
+use Rattle.std.specs.List.{range_with_len}
 use Rattle.std.proofs.lemmas.Bool.{cases_eq, cases_lt}
 use Rattle.std.proofs.lemmas.Bool.Decides.{nat_tests}
 use Rattle.std.proofs.lemmas.List.Sums.{sum_by_push}
@@ -11,7 +11,7 @@ use Rattle.vp_draws.specs.Draws.{best}
 use Rattle.vp_rule.specs.Lists.{RuleList}
 use Rattle.vp_audit.specs.Values.{decided, greatest_value, least_value, same}
 use Rattle.vp_audit.specs.Audits.{is_ambiguous, is_by, lost, only}
-use Rattle.vp_audit.specs.Sums.{added, more, no_tally, sums_over, tallied, tally_over, worth}
+use Rattle.vp_audit.specs.Sums.{added, more, no_tally, sums_over, tally_over, worth}
 use Rattle.vp_audit.specs.declared.priced.Decided.{Decided}
 use Rattle.vp_audit.specs.declared.priced.Decided.TheVariants.{Except, ByRule, Nothing}
 use Rattle.vp_audit.specs.declared.priced.Priced.{Priced}

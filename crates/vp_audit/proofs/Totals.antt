@@ -1,5 +1,5 @@
 -- The sums over all classes by weight are those over all deals.
-use Rattle.std.proofs.Common.{◌≡◌, ℕ, ◌*◌, ◌-◌, ◌≤◌, ◌<◌, Bool, List, map, length, refl, sym, ap, ◌∙◌}
+use Rattle.std.proofs.Common.{◌≡◌, ℕ, ◌-◌, ◌≤◌, List, map, length, refl, ap, ◌∙◌}
 use Rattle.std.specs.Prelude.{sum_by, count_by, not, ◌==◌}
 use Rattle.std.specs.List.{range_with_len}
 use Rattle.std.proofs.Math.Path.{fun_ext}
@@ -7,7 +7,6 @@ use Rattle.vp_suit.specs.Classes.{IsKept, representatives}
 use Rattle.vp_suit.specs.Turns.{turn}
 use Rattle.vp_suit.proofs.Deals.{sum_by_classes}
 use Rattle.vp_pay.specs.declared.table.PayTable.{PayTable}
-use Rattle.vp_draws.specs.Draws.{sum_of_best}
 use Rattle.vp_draws.proofs.TurnedValues.{best_by_classes}
 use Rattle.vp_rule.specs.Lists.{RuleList}
 use Rattle.vp_audit.specs.Audits.{audited, deals, is_ambiguous, is_by, loss, lost, only, tally}

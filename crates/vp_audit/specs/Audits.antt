@@ -1,5 +1,5 @@
 -- What a list loses against the best holds, over all deals.
-use Rattle.std.specs.Prelude.{ℕ, ◌-◌, Bool, if◌then◌else◌, not, ◌==◌, List, length, map, sum_by, count_by}
+use Rattle.std.specs.Prelude.{ℕ, ◌+◌, ◌-◌, Bool, if◌then◌else◌, not, ◌==◌, List, length, map, sum_by, count_by}
 use Rattle.std.specs.List.{range_with_len}
 use Rattle.vp_sets.specs.Sets.{combos, deck}
 use Rattle.vp_pay.specs.declared.table.PayTable.{PayTable}
@@ -54,3 +54,10 @@ audited table coin list = record {
   rules = record { items = map (λ i. tally table coin list (ByRule i)) (range_with_len 0 (length list.rules)) };
   none = tally table coin list Nothing;
 }
+
+-- the deals of all tallies, and what is lost on them
+abbrev pub shared_deals : Audited → ℕ
+shared_deals a = a.except.deals + sum_by (λ tally. tally.deals) a.rules.items + a.none.deals
+
+abbrev pub shared_loss : Audited → ℕ
+shared_loss a = a.except.loss + sum_by (λ tally. tally.loss) a.rules.items + a.none.loss

@@ -5,3 +5,4 @@ pub mod Pending
 pub mod Choices
 pub mod Laws
 pub mod Compiled
+pub mod Masked

@@ -1,5 +1,5 @@
 -- What is summed up over classes of deals, each by its weight.
-use Rattle.std.specs.Prelude.{◌≡◌, ℕ, ◌+◌, ◌*◌, ◌-◌, ◌<◌, ◌≤◌, ◌^◌, Bool, not, ◌==◌, List, length, map, sum_by, Option, replicate, slice_index_or, slice_set}
+use Rattle.std.specs.Prelude.{ℕ, ◌+◌, ◌*◌, ◌-◌, ◌<◌, ◌^◌, not, ◌==◌, List, length, map, sum_by, Option, replicate, slice_index_or, slice_set}
 use Rattle.std.specs.List.{range_with_len}
 use Rattle.vp_suit.specs.Classes.{weight}
 use Rattle.vp_pay.specs.declared.table.PayTable.{PayTable}

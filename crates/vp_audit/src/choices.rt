@@ -1,21 +1,20 @@
 //! The 32 holds of a hand with their values, and what rules and exceptions make of them.
 
-ghost use Rattle.std.specs.Prelude.{◌≡◌, ◌+◌, ◌<◌, ◌≤◌, IfSome, None, length, map, max, position, true};
-ghost use Rattle.vp_card.specs.Cards.{in_deck};
-ghost use Rattle.vp_rank.specs.Bounded.{some_below};
-ghost use Rattle.vp_draws.specs.Draws.{best, greatest, value};
+ghost use Rattle.std.specs.Prelude.{◌≡◌, ◌+◌, ◌<◌, ◌≤◌, IfSome, None, length, map, max, position};
+ghost use Rattle.vp_suit.specs.Classes.{IsDeal};
+ghost use Rattle.vp_draws.specs.Draws.{best, value};
 ghost use Rattle.vp_rule.specs.Holds.{matches};
-ghost use Rattle.vp_audit.specs.Choices.{greatest_matched, least_matched, matches_some, widened};
+ghost use Rattle.vp_audit.specs.Choices.{asked_size, greatest_matched, has_size, least_matched, matches_some, widened};
 ghost use Rattle.vp_audit.specs.Compiled.{rule_cell};
 ghost use Rattle.vp_audit.specs.Sums.{priced};
-ghost use Rattle.vp_audit.specs.Values.{deciding, matched};
+ghost use Rattle.vp_audit.specs.Values.{deciding};
 
 use crate::priced::{Decided, Priced};
 use std::marker::Model;
 use std::sync::ledger::Ledger;
 use vp_card::Hand;
 use vp_hold::Game;
-use vp_rule::{Holds, Rule};
+use vp_rule::{Holds, Rule, Test};
 use vp_wild::Steps;
 
 /// The holds of a hand, with the values that they have for a bet; the place of each value is the mask.
@@ -27,15 +26,13 @@ pub(crate) struct Choices<'a> {
 }
 
 impl<'a> Model for Choices<'a> {
-    ghost use Rattle.std.specs.Prelude.{◌≡◌, map};
-    ghost use Rattle.vp_draws.specs.Draws.{masks, value};
-    ghost use Rattle.vp_audit.specs.Choices.{BetHand};
+    ghost use Rattle.vp_audit.specs.Choices.{AreChoices, BetHand};
 
     ghost Value = { BetHand };
 
     ghost view = { λ c. record { table = c.holds.table; coin = c.coin; hand = c.holds.hand } };
 
-    ghost invariant = { λ c. c.values ≡ map (value c.holds.table c.coin c.holds.hand) masks };
+    ghost invariant = { λ c. AreChoices c.holds.table c.coin c.holds.hand c.values };
 }
 
 impl<'a> Choices<'a> {
@@ -45,7 +42,7 @@ impl<'a> Choices<'a> {
         hand: &Hand,
         steps: &mut Steps<L>,
     ) -> Choices<'a>
-        requires cards { in_deck game.now.table.deck hand.now ≡ true }
+        requires deal { IsDeal game.now.table.deck hand.now }
         ensures table { result.table ≡ game.now.table }
         ensures coin { result.coin ≡ game.now.coin }
         ensures hand { result.hand ≡ hand.now }
@@ -119,12 +116,24 @@ impl<'a> Choices<'a> {
         ensures least { result.0 ≡ least_matched self.now rule.now }
         ensures greatest { result.1 ≡ greatest_matched self.now rule.now }
     {
+        let size = asked_size(rule);
         let mut extremes = (u64::MAX, 0);
         for mask in 0..32u8 {
-            let counts = self.holds.is_matched(rule, mask);
+            let counts = self.is_matched(rule, size, mask);
             extremes = widened(extremes, counts, self.value(mask));
         }
         extremes
+    }
+
+    /// Whether the rule matches the hold `mask`. `size` is the number of cards that its first test asks for: it tells
+    /// most holds apart before any test is asked.
+    fn is_matched(&self, rule: &Rule, size: Option<u8>, mask: u8) -> bool
+        requires size { size ≡ asked_size rule.now.tests.items }
+        requires mask { mask < 32 }
+        ensures { result ≡ matches self.now.table rule.now self.now.hand mask }
+    {
+        let holds = &self.holds;
+        has_size(size, mask) && holds.is_matched(rule, mask)
     }
 
     /// Writes what each rule gives the hand.
@@ -170,6 +179,26 @@ fn first_matching(holds: &Holds, rules: &[Rule]) -> Option<usize>
     ensures inside { IfSome result (λ i. i < length rules.now) }
 {
     rules.iter().position(|rule| holds.some_is_matched(rule))
+}
+
+/// The number of cards that the first test of the rule asks for, where it asks for one.
+fn asked_size(rule: &Rule) -> Option<u8>
+    ensures { result ≡ asked_size rule.now.tests.items }
+{
+    match rule.tests.as_slice() {
+        [Test::Hold(size), ..] => Some(*size),
+        _ => None,
+    }
+}
+
+/// Whether the hold `mask` has so many cards, where a number is given.
+fn has_size(size: Option<u8>, mask: u8) -> bool
+    ensures { result ≡ has_size size mask }
+{
+    match size {
+        Some(size) => mask.count_ones() == u32::from(size),
+        None => true,
+    }
 }
 
 /// The least and the greatest of some values, with one value more where it counts.

@@ -1,6 +1,7 @@
 //! Laws of lists and their values, each the contract of a function that does nothing.
 
-ghost use Rattle.vp_audit.specs.Laws.{AllowedByClasses, CompiledAreLists, DecidedByClasses, ExceptedLoseAsLists, GreatestByClasses, LeastByClasses, OrdersLoseAsLists, RowsAreWorthTheBest, RulesChargeTheLeast};
+ghost use Rattle.vp_audit.specs.Masked.{BestHoldsLoseLeast};
+ghost use Rattle.vp_audit.specs.Laws.{AllowedByClasses, CompiledAreLists, DealsAreSharedOut, DecidedByClasses, ExceptedLoseAsLists, ExceptionsChargeTheirHold, GreatestByClasses, LeastAndLossAreTheBest, LeastByClasses, LeastIsAtMostTheBest, LossIsSharedOut, NothingChargesHoldingNothing, OrdersLoseAsLists, RowsAreWorthTheBest, RulesAllowTheGreatest, RulesChargeTheLeast};
 
 /// The values of the holds that a rule matches are the same for all deals of a class, which are what the turns of the
 /// suits make of each other; and so is what decides a deal, and what a list is charged for it.
@@ -11,10 +12,25 @@ pub fn rules_are_priced_by_classes()
     ensures greatest { GreatestByClasses }
 {}
 
-/// Where no exception is one of a deal's class, and a rule is the first that matches some hold, the list is charged the
-/// least value among the holds that this rule matches.
+/// What a list is charged for a deal, in each of the three ways in which it is decided. Where an exception is one of the
+/// deal's class, it is the value of the exception's hold for the representative of the class. Else, where a rule is the
+/// first that matches some hold, it is the least value among the holds that this rule matches. Else it is the value of
+/// holding nothing. The greatest value of the deal is told so, too.
 pub fn lists_are_charged_the_least_value()
-    ensures { RulesChargeTheLeast }
+    ensures exceptions { ExceptionsChargeTheirHold }
+    ensures rules { RulesChargeTheLeast }
+    ensures greatest { RulesAllowTheGreatest }
+    ensures nothing { NothingChargesHoldingNothing }
+{}
+
+/// The loss of a list is what the least values of all deals fall short of their best values; no deal's least value exceeds
+/// its best one. The tallies share it out: the deals of the exceptions, of the rules and of no rule sum to the number of
+/// all deals, and what the list loses on them sums to the loss.
+pub fn losses_are_shared_out()
+    ensures below { LeastIsAtMostTheBest }
+    ensures worth { LeastAndLossAreTheBest }
+    ensures deals { DealsAreSharedOut }
+    ensures losses { LossIsSharedOut }
 {}
 
 /// What an order of a pool's rules loses in the pool's matrix is what the list of the rules in this order loses over all
@@ -29,4 +45,9 @@ pub fn orders_lose_as_lists()
 /// of the list language.
 pub fn compiled_lists_are_lists()
     ensures { CompiledAreLists }
+{}
+
+/// A list with exceptions for the classes at some places loses at least what it loses where these give the best holds.
+pub fn best_holds_lose_least()
+    ensures { BestHoldsLoseLeast }
 {}

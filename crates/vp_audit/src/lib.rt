@@ -8,8 +8,16 @@ mod laws;
 mod priced;
 mod sums;
 mod walk;
+mod writing;
 
 pub use audited::{Audited, Tally};
 pub use filling::fill_matrix;
-pub use laws::{compiled_lists_are_lists, lists_are_charged_the_least_value, orders_lose_as_lists, rules_are_priced_by_classes};
+pub use laws::{
+    best_holds_lose_least, compiled_lists_are_lists, lists_are_charged_the_least_value,
+    losses_are_shared_out, orders_lose_as_lists, rules_are_priced_by_classes,
+};
 pub use walk::audit;
+pub use writing::put_list;
+
+#[cfg(test)]
+mod tests;

@@ -35,18 +35,18 @@ use Rattle.vp_check.proofs.FewClasses.{few_classes}
 
 -- ---- words, with a byte behind each
 
-room : List Word → ℕ
+pub room : List Word → ℕ
 room words = sum_by (λ word. length word + 1) words
 
-room-cons : (word : Word) (words : List Word) → room (word ∷ words) ≡ length word + 1 + room words
+pub room-cons : (word : Word) (words : List Word) → room (word ∷ words) ≡ length word + 1 + room words
 unfolding room
 room-cons word words = sum_by-cons (λ word. length word + 1) word words
 
-room-nil : room [] ≡ 0
+pub room-nil : room [] ≡ 0
 unfolding room
 room-nil = refl
 
-room-append : (a b : List Word) → room (a ++ b) ≡ room a + room b
+pub room-append : (a b : List Word) → room (a ++ b) ≡ room a + room b
 unfolding room
 room-append a b = sum_by-append (λ word. length word + 1) a b
 
@@ -60,7 +60,7 @@ room_spaced (word ∷ next ∷ more) =
 room_line : (words : List Word) → length (line_of words) ≤ room words + 1
 room_line words = omega (arith, room_spaced words, length-append (spaced words) (10 ∷ []))
 
-room_lines : (k : ℕ) (text : Text) → AllByRecursion (λ words. room words < k) text → length (written text) ≤ k * length text
+pub room_lines : (k : ℕ) (text : Text) → AllByRecursion (λ words. room words < k) text → length (written text) ≤ k * length text
 room_lines k [] all = omega arith
 room_lines k (words ∷ text) all =
     let many : k * length (words ∷ text) ≡ k + k * length text = let n = length text in omega (arith, times_suc k n) in
@@ -71,7 +71,7 @@ room_lines k (words ∷ text) all =
 
 -- ---- class lines
 
-room_cards : (cards : List ℕ) → room (map card_text cards) ≡ 3 * length cards
+pub room_cards : (cards : List ℕ) → room (map card_text cards) ≡ 3 * length cards
 room_cards [] = room-nil
 room_cards (card ∷ cards) = omega (arith, room-cons (card_text card) (map card_text cards), card_text_length card, room_cards cards)
 
@@ -103,7 +103,7 @@ room_classes n (line ∷ lines) all = (room_class n line all.0, room_classes n l
 
 -- ---- pay tables
 
-room_name : (name : List ℕ) → is_name name ≡ true → length name ≤ 24
+pub room_name : (name : List ℕ) → is_name name ≡ true → length name ≤ 24
 room_name [] is = omega arith
 room_name (byte ∷ bytes) is =
     let parts = both_true (is_letter byte && list_all is_name_byte bytes) (nat_le (length bytes) 23) is in
@@ -117,7 +117,7 @@ held_few mask (card ∷ cards) =
       | false ↦ omega (arith, held_few (mask / 2) cards)
     ]
 
-room_ranks : (set : ℕ) → length (rank_set_text set) ≤ 13
+pub room_ranks : (set : ℕ) → length (rank_set_text set) ≤ 13
 unfolding rank_set_text any_text
 room_ranks set =
     elim (set == 8191) as (λ b. length (cond b (codes "any") (held set rank_letters)) ≤ 13) [
@@ -129,7 +129,7 @@ room_kicker : (kicker : Option ℕ) → room (kicker_words kicker) ≤ 21
 room_kicker None = omega (arith, room-nil)
 room_kicker (Some set) = omega (arith, room-cons (codes "kicker") (rank_set_text set ∷ []), room-cons (rank_set_text set) [], room-nil, room_ranks set)
 
-one_word : (word : Word) → room (word ∷ []) ≡ length word + 1
+pub one_word : (word : Word) → room (word ∷ []) ≡ length word + 1
 one_word word = omega (arith, room-cons word [], room-nil)
 
 with_ranks : (word : Word) (set : ℕ) (more : List Word) → room (word ∷ rank_set_text set ∷ more) ≤ length word + 15 + room more
@@ -192,7 +192,7 @@ room_wild : (wild : Option ℕ) → length (wild_word wild) ≤ 4
 room_wild None = omega arith
 room_wild (Some rank) = omega arith
 
-two_words : (a b : Word) → room (a ∷ b ∷ []) ≡ length a + length b + 2
+pub two_words : (a b : Word) → room (a ∷ b ∷ []) ≡ length a + length b + 2
 two_words a b = omega (arith, room-cons a (b ∷ []), one_word b)
 
 room_head : (t : PayTable) → IsTable t → AllByRecursion (λ words. room words < 300) (head_text t)
@@ -204,11 +204,11 @@ room_head t is =
       (omega (arith, two_words (codes "deck") (decimal t.deck)), (omega (arith, two_words (codes "wild") (wild_word t.wild), room_wild t.wild), (omega (arith, two_words (codes "coins") (decimal t.coins)), tt))),
     )
 
-written-append : (a b : Text) → length (written (a ++ b)) ≡ length (written a) + length (written b)
+pub written-append : (a b : Text) → length (written (a ++ b)) ≡ length (written a) + length (written b)
 written-append a b = ap length (flat_map-append line_of a b) ∙ length-append (written a) (written b)
 
 -- a table has at most 37 lines
-short_table : (t : PayTable) → IsTable t → length (written (table_text t)) ≤ 11100
+pub short_table : (t : PayTable) → IsTable t → length (written (table_text t)) ≤ 11100
 unfolding table_text
 short_table t is =
     let lines = map (pay_line_words t.coins) t.lines.items in

@@ -1,7 +1,7 @@
 -- Where the cells of a matrix stand, what the settled order is, exchange by exchange, and which classes are excepted.
 use Rattle.std.specs.Prelude.{◌≡◌, ◌↔◌, ℕ, ◌+◌, ◌*◌, ◌<◌, ◌≤◌, List, length, slice_index}
 use Rattle.vp_compile.specs.Rows.{Row, cell, order_loss, row_at}
-use Rattle.vp_compile.specs.Matrices.{IsMatrix, rows_of}
+use Rattle.vp_compile.specs.Matrices.{IsMatrix, IsOrder, rows_of}
 use Rattle.vp_compile.specs.Orders.{exchange, settled, IsSettled}
 use Rattle.vp_compile.specs.Excepted.{AreFewest, excepted_places}
 
@@ -25,6 +25,12 @@ SettledStay = (rows : List Row) (order : List ℕ) → IsSettled rows order → 
 abbrev pub FirstAreExchanged : Type 0
 FirstAreExchanged =
     (rows : List Row) (order : List ℕ) (place : ℕ) → AreFirstLower rows order place → settled rows order ≡ settled rows (exchange order place)
+
+-- exchanges end with an order of all rules that no exchange of neighbours lowers
+abbrev pub OrdersSettle : Type 0
+OrdersSettle =
+    (rows : List Row) (rules : ℕ) (order : List ℕ) → IsOrder rules order
+    → IsOrder rules (settled rows order) × IsSettled rows (settled rows order)
 
 -- the excepted places are the fewest classes without which an order loses at most a limit, and no other places are
 abbrev pub FewestAreExcepted : Type 0

@@ -2,7 +2,7 @@
 
 ghost use Rattle.std.specs.Prelude.{◌≡◌, length};
 
-use crate::{EMPTY, Matrix, except, loss_left, optimum, settle};
+use crate::{EMPTY, Matrix, compile, except, loss_left, optimum, settle};
 use std::alloc::{AllocError, Global};
 use std::test::Fail;
 
@@ -90,6 +90,26 @@ fn excepts_the_fewest_classes(rt: HostRuntime) -> Result<(), Fail> {
         let (found, loss) = excepted(rt.alloc(), &m, limit)?;
         assert_eq!(rt; found.as_slice(), places, "at {limit}");
         assert_eq!(rt; loss, left, "at {limit}");
+    }
+    Ok(())
+}
+
+// The second matrix above: under its last order 1 0 2 the classes lose 0, 3 and 4.
+#[test]
+fn compiles_rules(rt: HostRuntime) -> Result<(), Fail> {
+    let cells = [0, 1, 0, EMPTY, 0, 1, 3, 1, 4];
+    let m = Matrix::new(3, &[3, 3, 1], &[1, 1, 5], &[0, 0, 3], &cells).ok_or("no matrix")?;
+    let mut owner = [5; 3];
+    assert!(rt; owner.len() == m.classes());
+    let none_at_all: &[u32] = &[];
+    for (limit, places, loss) in [(7, none_at_all, 7), (3, &[2], 3), (2, &[1, 2], 0)] {
+        let compiled = compile(rt.alloc(), &m, &mut owner, limit)?;
+        assert_eq!(rt;
+            (compiled.optimum, compiled.start, compiled.settled),
+            (11, 8, 7)
+        );
+        assert_eq!(rt; compiled.order.as_slice(), [1, 0, 2].as_slice());
+        assert_eq!(rt; (compiled.places.as_slice(), compiled.loss), (places, loss));
     }
     Ok(())
 }

@@ -17,6 +17,7 @@ use Rattle.vp_loggram.specs.Spelling.{log_text}
 use Rattle.vp_loggram.specs.declared.event.Event.{Event}
 use Rattle.vp_loggram.proofs.Log_laws.{written_again}
 use Rattle.vp_loggram.proofs.Logs_grammar.{Exact-log}
+use Rattle.vp_replay.specs.Summaries.{AllBet}
 use Rattle.vp_gen.specs.Generator.{games_from, generated, made}
 use Rattle.vp_gen.specs.Promises.{IsAccepted, IsReadAs}
 use Rattle.vp_gen.proofs.Counts.{AreCards, counts_of_deck}
@@ -71,6 +72,17 @@ generated_log table coin seed games is few =
     let five : coin * games ≤ 5 * games = mul-le-mul_right games (omega (arith, is.within, is.rules.most_coins)) in
     record { start = omega (arith, five); events = events_are table coin (coin * games) seed games is (omega (arith, five)) }
 
+events_bet : (table : PayTable) (coin credits x games : ℕ) → AllBet coin (games_from table coin credits x games)
+unfolding games_from
+events_bet table coin credits x zero = tt
+events_bet table coin credits x (suc games) =
+    let m = made table coin credits x in
+    (made_bet table coin credits x, events_bet table coin m.event.credits m.state games)
+
+generated_bet : (table : PayTable) (coin seed games : ℕ) → AllBet coin (generated table coin seed games).events
+unfolding generated
+generated_bet table coin seed games = events_bet table coin (coin * games) seed games
+
 generated_count : (table : PayTable) (coin seed games : ℕ) → length (generated table coin seed games).events ≡ games
 unfolding generated
 generated_count table coin seed games = events_count table coin (coin * games) seed games
@@ -89,15 +101,16 @@ read_as table log is grammar =
 
 -- ---- accepted
 
-pub accepted : (table : PayTable) (coin seed games : ℕ) → IsBet table coin → games ≤ 100000 → IsAccepted table games (generated table coin seed games)
+pub accepted : (table : PayTable) (coin seed games : ℕ) → IsBet table coin → games ≤ 100000 → IsAccepted table coin games (generated table coin seed games)
 accepted table coin seed games is few =
     let log = generated table coin seed games in
     let count = generated_count table coin seed games in
     let grammar = generated_log table coin seed games is few in
     record {
       count = count;
+      bets = generated_bet table coin seed games;
       grammar = grammar;
       read = read_as table log is.rules grammar;
-      fits = log_width table.deck log grammar (omega (arith, count));
+      fits = omega (arith, log_width table.deck log grammar (omega (arith, count)));
       lawful = generated_lawful table coin seed games is;
     }

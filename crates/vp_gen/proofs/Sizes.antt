@@ -73,8 +73,8 @@ log_split log =
     let first : written (log_text log) ≡ line_of (key_number (codes "log") log.start) ++ written (lines ++ (codes "end" ∷ []) ∷ []) = flat_map-cons line_of (key_number (codes "log") log.start) (lines ++ (codes "end" ∷ []) ∷ []) in
     first ∙ ap (λ (l : List ℕ). line_of (key_number (codes "log") log.start) ++ l) (flat_map-append line_of lines ((codes "end" ∷ []) ∷ []))
 
--- a log of few games fits
-pub log_width : (n : ℕ) (log : LogValue) → IsLog n log → length log.events ≤ 100000 → length (written (log_text log)) ≤ 67108864
+-- a log of few games leaves room in an input
+pub log_width : (n : ℕ) (log : LogValue) → IsLog n log → length log.events ≤ 100000 → length (written (log_text log)) ≤ 20000000
 log_width n log is few =
     let first = line_of (key_number (codes "log") log.start) in
     let lines = written (map event_words log.events) in

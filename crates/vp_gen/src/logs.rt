@@ -12,7 +12,7 @@ use std::marker::Brand;
 use std::sync::ledger::{Blank, Ledger};
 use vp_hold::Game;
 use vp_text::Out;
-use vp_wild::Steps;
+use vp_wild::{KeptPayments, Steps};
 
 /// Appends the first line of a log.
 #[tactic(auto, using(crate::proofs::Lines::start_line, vp_text::proofs::Room::length_with_word, vp_text::proofs::Room::length_decimal))]
@@ -32,8 +32,10 @@ fn push_games<L: Ledger>(
     credits: u64,
     state: u64,
     games: u32,
+    payments: &mut KeptPayments,
     steps: &mut Steps<L>,
 ) -> Result<(), AllocError>
+    requires payments { payments.old ≡ game.now }
     requires funds { game.now.coin * games ≤ credits }
     requires small { credits ≤ 500000 }
     requires few { games ≤ 100000 }
@@ -44,7 +46,7 @@ fn push_games<L: Ledger>(
     let mut state = state;
     let mut left = games;
     'games: while left > 0 {
-        let event = make_event(game, &pack, credits, &mut state, steps);
+        let event = make_event(game, &pack, credits, &mut state, payments, steps);
         event.append(text)?;
         credits = event.credits;
         left -= 1;
@@ -67,12 +69,22 @@ fn log_of<L: Ledger>(
     ensures text { IfOk result (λ text. text.items ≡ written (log_text (generated game.now.table game.now.coin seed games))) }
     ensures fits { IfOk result (λ text. length text.items ≤ 67108864) }
 {
-    let _table = game.table();
-    let start = u64::from(game.coin()) * u64::from(games);
+    let table = game.table();
+    let coin = game.coin();
+    let mut payments = KeptPayments::new(table, coin);
+    let start = u64::from(coin) * u64::from(games);
     let mut text = Vec::new(alloc);
     push_start(&mut text, start)?;
     let mut steps = Steps::<L>::new(blank);
-    push_games(&mut text, game, start, seed, games, &mut steps)?;
+    push_games(
+        &mut text,
+        game,
+        start,
+        seed,
+        games,
+        &mut payments,
+        &mut steps,
+    )?;
     text.extend_from_slice(b"end\n")?;
     Ok(text)
 }

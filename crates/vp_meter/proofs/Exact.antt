@@ -1,14 +1,20 @@
 -- Meters are exact at each whole payment.
-use Rattle.std.proofs.Common.{◌≡◌, ℕ, ◌+◌, ◌*◌, ◌<◌, ◌≤◌, List, [], ◌∷◌, ap, refl, subst, sym, ◌∙◌}
+use Rattle.std.proofs.Common.{◌≡◌, ℕ, ◌+◌, ◌-◌, ◌*◌, ◌<◌, ◌≤◌, List, [], ◌∷◌, length, ap, refl, subst, sym, ◌∙◌, arith}
+use Rattle.std.proofs.Math.Nat.{mul_assoc}
 use Rattle.std.specs.List.{All}
 use Rattle.std.proofs.lemmas.List.Elements.{All-nil, All-cons}
-use Rattle.vp_draws.specs.Draws.{best, value, sum_of_best}
+use Rattle.vp_sets.specs.Draws.{common, discarded, scale}
+use Rattle.vp_sets.specs.Sets.{choose}
+use Rattle.vp_sets.proofs.Denominators.{scale_exact}
+use Rattle.vp_sets.proofs.Holds.{length-draws, length-held}
+use Rattle.vp_draws.specs.Draws.{IsMean, best, total, value, sum_of_best}
 use Rattle.vp_draws.proofs.Chosen.{value_le_best}
 use Rattle.vp_draws.proofs.TurnedValues.{best_by_representative, carried_from}
 use Rattle.vp_suit.specs.Classes.{IsDeal, least_turn, representative, representatives}
 use Rattle.vp_suit.specs.Turns.{carried}
 use Rattle.vp_suit.proofs.Deals.{deal_rises}
 use Rattle.vp_suit.proofs.Representatives.{represented}
+use Rattle.vp_suit.proofs.TurnedDraws.{dealt_is}
 use Rattle.vp_meter.specs.declared.piece.Piece.{Piece}
 use Rattle.vp_meter.specs.Metered.{IsMetering, Metering, at_payment, with_payment}
 use Rattle.vp_meter.specs.Laws.{IsBestAt, IsPlayed, MetersTellEveryDeal, PlayedHold, mask_in_force}
@@ -57,6 +63,15 @@ played m lo hi x cards bet from to deal =
     let before = carried_from m.table.deck (least_turn cards) (mask_in_force m lo hi x (representative cards)) cards turns deal (small_mask m lo hi x (representative cards) from to) in
     record { mask = before.0; within = before.1; played = record { turning = least_turn cards; within = turns; deal = refl; hold = before.2 } }
 
+-- the value of each hold is its mean payment, however much the line pays
+mean_at : (m : Metering) (x mask : ℕ) (cards : List ℕ) → IsMetering m → IsDeal m.table.deck cards → IsMean m.table.deck cards mask (total (at_payment m x) m.coin cards mask) (value (at_payment m x) m.coin cards mask)
+unfolding value with_payment
+mean_at m x mask cards bet deal =
+    let d = dealt_is m.table.deck cards deal in
+    let k : ℕ = length (discarded mask cards) in
+    let exact : scale m.table.deck k * choose (m.table.deck - 5) k ≡ common m.table.deck = scale_exact m.table.deck k bet.bet.rules.known_deck (omega (arith, length-held mask cards, d.five)) in
+    rw (length-draws m.table.deck cards mask d) (mul_assoc (total (at_payment m x) m.coin cards mask) (scale m.table.deck k) (choose (m.table.deck - 5) k) ∙ ap (λ l. total (at_payment m x) m.coin cards mask * l) exact)
+
 -- and it is best
 pub played_best : (m : Metering) (lo hi x mask : ℕ) (cards : List ℕ) → IsMetering m → lo ≤ x → x ≤ hi → IsDeal m.table.deck cards → IsPlayed m lo hi x cards mask → IsBestAt m x cards mask
 unfolding with_payment
@@ -65,7 +80,11 @@ played_best m lo hi x mask cards bet from to deal is =
     let there : value t m.coin (representative cards) (carried is.turning cards mask) ≡ best t m.coin (representative cards) =
     ap (value t m.coin (representative cards)) is.hold ∙ optimal m lo hi x (representative cards) from to in
     let here : value t m.coin cards mask ≡ best t m.coin cards = best_by_representative is.turning mask m.coin t cards bet.bet.rules.known_deck.0 is.within deal is.deal there in
-    record { best = here; greatest = λ other small. subst (λ v. value t m.coin cards other ≤ v) (sym here) (value_le_best t m.coin cards other small) }
+    record {
+      best = here;
+      greatest = λ other small. subst (λ v. value t m.coin cards other ≤ v) (sym here) (value_le_best t m.coin cards other small);
+      mean = λ other small. mean_at m x other cards bet deal;
+    }
 
 -- a meter tells every deal
 pub meter_tells : MetersTellEveryDeal

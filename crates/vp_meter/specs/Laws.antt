@@ -1,6 +1,6 @@
 -- What metered bets obey.
 use Rattle.std.specs.Prelude.{◌≡◌, ℕ, ◌+◌, ◌-◌, ◌*◌, ◌<◌, ◌≤◌, if◌then◌else◌, List, ◌∷◌, length}
-use Rattle.vp_draws.specs.Draws.{best, sum_of_best, value}
+use Rattle.vp_draws.specs.Draws.{IsMean, best, sum_of_best, total, value}
 use Rattle.vp_pay.specs.Bets.{IsBet}
 use Rattle.vp_pay.specs.declared.table.PayTable.{PayTable}
 use Rattle.vp_suit.specs.Classes.{IsDeal, representative}
@@ -47,10 +47,11 @@ pub record PlayedHold (m : Metering) (lo hi x : ℕ) (cards : List ℕ) : Type 0
   pub within : mask < 32
   pub played : IsPlayed m lo hi x cards mask
 
--- with the payment x no hold of the deal is worth more
+-- with the payment x no hold of the deal is worth more, and the value of each over the common denominator is its mean payment over all draws
 pub record IsBestAt (m : Metering) (x : ℕ) (cards : List ℕ) (mask : ℕ) : Type 0 where
   pub best : value (at_payment m x) m.coin cards mask ≡ best (at_payment m x) m.coin cards
   pub greatest : (other : ℕ) → other < 32 → value (at_payment m x) m.coin cards other ≤ value (at_payment m x) m.coin cards mask
+  pub mean : (other : ℕ) → other < 32 → IsMean m.table.deck cards other (total (at_payment m x) m.coin cards other) (value (at_payment m x) m.coin cards other)
 
 -- a meter tells every deal, at each whole payment from lo to hi: each deal has a hold that is played, and each such hold is best; and the
 -- last piece that begins there or before tells the sum of the best values of all deals

@@ -1,5 +1,5 @@
 -- What it says of the cards of a game that they break no law.
-use Rattle.std.proofs.Common.{◌≡◌, ℕ, ◌+◌, ◌-◌, ◌≤◌, Bool, true, false, not, List, [], ◌∷◌, ◌++◌, length, refl, ap, subst, arith, Some, None, inl, inr, append_assoc}
+use Rattle.std.proofs.Common.{◌≡◌, ℕ, ◌+◌, ◌-◌, ◌≤◌, Bool, true, false, not, List, [], ◌∷◌, ◌++◌, length, refl, ap, subst, arith, Some, None, inl, inr, append_assoc, append-nil}
 use Rattle.std.specs.Prelude.{Option, ◌||◌, ◌&&◌, ◌==◌, if◌then◌else◌}
 use Rattle.std.specs.List.{All}
 use Rattle.std.proofs.lemmas.List.Elements.{All-nil, All-cons, All-head, All-tail}
@@ -8,7 +8,8 @@ use Rattle.std.proofs.lemmas.Bool.Decides.{nat_tests}
 use Rattle.vp_card.specs.Rising.{times}
 use Rattle.vp_card.specs.Cards.{absent, all_differ, in_deck, in_order, held}
 use Rattle.vp_card.proofs.InDeck.{in_deck-in_order}
-use Rattle.vp_card.proofs.Rising.{times-append, times-same}
+use Rattle.vp_card.proofs.Rising.{rising-joined, times-append, times-same}
+use Rattle.vp_sets.proofs.Holds.{Dealt}
 use Rattle.vp_loggram.specs.Logs.{is_of_deck}
 use Rattle.vp_loggram.specs.declared.event.Event.{Event}
 use Rattle.vp_replay.specs.declared.rule.LogRule.{LogRule}
@@ -187,6 +188,15 @@ lawful_holds e l = let n = counted e l in holds e.deal e.hold.items n.once n.wit
 
 pub deal_of_deck : (n : ℕ) (e : Event) → is_of_deck n e ≡ true → in_deck n (in_order e.deal) ≡ true
 deal_of_deck n e is = in_deck-in_order n e.deal (and_parts (in_deck n e.deal) (in_deck n e.hold.items) (and_parts (in_deck n e.deal && in_deck n e.hold.items) (in_deck n e.draw.items) is).0).0
+
+-- the deal in rising order is a hand that was dealt
+pub lawful_dealt : (n : ℕ) (e : Event) → is_of_deck n e ≡ true → length (in_order e.deal) ≡ 5 → AreLawfulCards e → Dealt n (in_order e.deal)
+unfolding in_order
+lawful_dealt n e of five l = record {
+  rising = rising-joined e.deal [] tt (λ c. rw (append-nil e.deal) (once_from e.deal l.deal c));
+  of_deck = deal_of_deck n e of;
+  five = five;
+}
 
 -- ---- lawful cards break no law
 

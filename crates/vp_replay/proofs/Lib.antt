@@ -5,4 +5,5 @@ pub mod Costing
 pub mod ColumnLaws
 pub mod Runs
 pub mod SoFar
+pub mod Quiet
 pub mod Telling

@@ -1,6 +1,7 @@
 -- What is told of a lawful log.
-use Rattle.std.specs.Prelude.{ℕ, ◌+◌, Bool, true, ◌&&◌, nat_lt, List, [], ◌∷◌, ◌++◌, length, codes, sum_by, if◌then◌else◌}
+use Rattle.std.specs.Prelude.{◌≡◌, ℕ, ◌+◌, Bool, true, ◌&&◌, nat_lt, List, [], ◌∷◌, ◌++◌, length, codes, sum_by, if◌then◌else◌}
 use Rattle.std.specs.Fmt.{decimal}
+use Rattle.std.specs.List.{AllByRecursion}
 use Rattle.vp_text.specs.Lines.{Word}
 use Rattle.vp_text.specs.Sections.{Text}
 use Rattle.vp_pay.specs.declared.table.PayTable.{PayTable}
@@ -58,6 +59,10 @@ added s e cost = record {
   slips = s.slips + (if nat_lt 0 cost then 1 else 0);
   loss = s.loss + cost;
 }
+
+-- each game bets this much
+abbrev pub AllBet : ℕ → List Event → Type 0
+AllBet coin events = AllByRecursion (λ e. e.bet ≡ coin) events
 
 -- ---- the lines of the numbers
 

@@ -8,6 +8,7 @@ ghost use Rattle.vp_replay.specs.Rules.{among};
 
 use crate::Games;
 use vp_card::{Card, Hand};
+use vp_hold::Game;
 use vp_loggram::Event;
 
 /// Whether the card of this number is held.
@@ -38,15 +39,26 @@ fn mask_of(hand: &Hand, hold: &[Card]) -> u8
 
 /// What the hold of a lawful game costs at its bet: the best value of its deal, less the value of its hold. It is a mean
 /// payment over the common denominator of the deck.
-#[tactic(auto, using(crate::proofs::LawfulCards::lawful_deal, crate::proofs::LawfulCards::deal_of_deck, crate::proofs::LawfulCards::lawful_holds))]
 pub fn cost(games: &Games, event: &Event) -> u64
     requires lawful { IsLawfulEvent games.now event.now }
     requires deck { is_of_deck games.now.deck event.now ≡ true }
     ensures value { result ≡ cost_of games.now event.now }
-    // No hold of the deal is worth more than the held cards and the cost together.
+    // No hold of the deal is worth more than the held cards and the cost together, and values are mean payments.
     ensures cost { IsCost games.now event.now result }
 {
-    let game = games.game(event.bet);
+    cost_at(games.game(event.bet), event)
+}
+
+/// The same, over the sums of its bet alone.
+#[tactic(auto, using(crate::proofs::LawfulCards::lawful_deal, crate::proofs::LawfulCards::deal_of_deck, crate::proofs::LawfulCards::lawful_holds))]
+pub fn cost_at(game: &Game, event: &Event) -> u64
+    requires bet { event.now.bet ≡ game.now.coin }
+    requires lawful { IsLawfulEvent game.now.table event.now }
+    requires deck { is_of_deck game.now.table.deck event.now ≡ true }
+    ensures value { result ≡ cost_of game.now.table event.now }
+    ensures cost { IsCost game.now.table event.now result }
+{
+    let _table = game.table();
     let hand = Hand::of(event.deal).unwrap();
     let mask = mask_of(&hand, &event.hold);
     game.best(&hand).value - game.value(&hand, mask)

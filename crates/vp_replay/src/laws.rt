@@ -1,6 +1,7 @@
 //! Laws of logs, each the contract of a function that does nothing.
 
 ghost use Rattle.std.specs.Prelude.{◌≡◌, ◌↔◌, None};
+ghost use Rattle.vp_pay.specs.Table.{IsTable};
 ghost use Rattle.vp_pay.specs.declared.table.PayTable.{PayTable};
 ghost use Rattle.vp_loggram.specs.Logs.{IsEvent, LogValue};
 ghost use Rattle.vp_loggram.specs.declared.event.Event.{Event};
@@ -15,7 +16,8 @@ pub fn lawful_logs_keep_the_laws()
     ensures { (table : PayTable) (log : LogValue) → ((break_in table log ≡ None) ↔ AreLawfulGames table log.start log.events) }
 {}
 
-/// What a cost is: the best value of the deal is that of the held cards, and the cost.
+/// What a cost is: the best value of the deal is that of the held cards, and the cost; no hold of the deal is worth more;
+/// and each value over the common denominator is the mean payment of its hold over all draws.
 pub fn costs_are_of_the_held_cards()
-    ensures { (table : PayTable) (e : Event) → IsEvent table.deck e → IsLawfulEvent table e → IsCost table e (cost_of table e) }
+    ensures { (table : PayTable) (e : Event) → IsTable table → IsEvent table.deck e → IsLawfulEvent table e → IsCost table e (cost_of table e) }
 {}

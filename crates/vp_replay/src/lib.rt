@@ -13,9 +13,9 @@ mod summary;
 mod tests;
 
 pub use breaks::lawful;
-pub use costs::cost;
+pub use costs::{cost, cost_at};
 pub use games::Games;
 pub use laws::{costs_are_of_the_held_cards, lawful_logs_keep_the_laws};
-pub use replaying::{put_replay, replay};
+pub use replaying::{put_replay, replay, summary_at};
 pub use rule::{Broken, LogRule};
 pub use summary::{Summary, put_summary};

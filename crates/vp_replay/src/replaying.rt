@@ -5,9 +5,10 @@ ghost use Rattle.vp_io.specs.Puts.{Puts};
 ghost use Rattle.vp_text.specs.Written.{line_of, written};
 ghost use Rattle.vp_loggram.specs.Logs.{IsLog};
 ghost use Rattle.vp_replay.specs.Rules.{break_in};
-ghost use Rattle.vp_replay.specs.Summaries.{added, cost_line, cost_lines, cost_words, replay_lines, summary_of};
+ghost use Rattle.vp_replay.specs.Summaries.{AllBet, added, cost_line, cost_lines, cost_words, replay_lines, summary_of};
 
-use crate::{Games, Summary, cost, put_summary};
+use crate::{Games, Summary, cost, cost_at, put_summary};
+use vp_hold::Game;
 use vp_io::{Sink, WriteFault};
 use vp_lines::{Word, put_words};
 use vp_loggram::{Event, Log};
@@ -84,6 +85,31 @@ pub fn replay<K: Sink>(
         summary = added(&summary, &event, cost);
     }
     Ok(summary)
+}
+
+/// The numbers of a lawful log with cards of the table's deck, of which each game bets what this one does: it takes the
+/// sums of that bet alone.
+pub fn summary_at(game: &Game, log: &Log) -> Summary
+    requires log { IsLog game.now.table.deck log.now }
+    requires lawful { break_in game.now.table log.now ≡ None }
+    requires bets { AllBet game.now.coin log.now.events }
+    ensures { result ≡ summary_of game.now.table log.now }
+{
+    let mut summary = Summary {
+        games: 0,
+        bet: 0,
+        paid: 0,
+        credits: log.start(),
+        slips: 0,
+        loss: 0,
+    };
+    let _table = game.table();
+    let mut events = log.events();
+    while let Some(event) = events.next() {
+        let cost = cost_at(game, &event);
+        summary = added(&summary, &event, cost);
+    }
+    summary
 }
 
 /// Writes what is told of a lawful log with cards of the table's deck: a line for each game whose hold costs something,

@@ -1,6 +1,6 @@
 //! What is kept of a hold, and which tests hold of it.
 
-ghost use Rattle.std.specs.Prelude.{◌≡◌, ◌==◌, ◌&&◌, nat_lt, nat_le, not, count_by};
+ghost use Rattle.std.specs.Prelude.{◌≡◌, ◌==◌, ◌&&◌, false, nat_lt, nat_le, not, count_by};
 ghost use Rattle.std.specs.Int.{bit_at};
 ghost use Rattle.std.specs.List.{list_all, range_with_len};
 ghost use Rattle.vp_card.specs.Cards.{IsHand, has, rank, suit};
@@ -11,6 +11,7 @@ ghost use Rattle.vp_rank.specs.Shapes.{count_of};
 ghost use Rattle.vp_rank.specs.Wilds.{is_wild};
 ghost use Rattle.vp_wild.specs.ByCounts.{at_most_one_suit};
 ghost use Rattle.vp_rule.specs.ByCounts.{IsHeld, test_by_counts};
+ghost use Rattle.vp_rule.specs.declared.held.Dealt.{Dealt};
 
 use crate::{Rule, Test};
 use arrayvec::ArrayVec;
@@ -49,6 +50,24 @@ impl Held {
 
 /// Whether all tests of the rule hold of the hold.
 pub(crate) fn all_hold(dealt: &Dealt, held: &Held, rule: &Rule) -> bool
+    ensures { result ≡ list_all (λ test. test_by_counts dealt.now held.now test) rule.now.tests.items }
+{
+    may_hold(held, rule) && each_holds(dealt, held, rule)
+}
+
+/// False where the rule asks first for another number of held cards: most rules do, and most holds end here.
+#[tactic(auto, unfolding(crate::specs::ByCounts::test_by_counts))]
+fn may_hold(held: &Held, rule: &Rule) -> bool
+    ensures { (dealt : Dealt) → result ≡ false → list_all (λ test. test_by_counts dealt held.now test) rule.now.tests.items ≡ false }
+{
+    match rule.tests.as_slice() {
+        [Test::Hold(number), ..] => held.kept == *number,
+        _ => true,
+    }
+}
+
+/// Whether all tests of the rule hold of the hold, one after another.
+fn each_holds(dealt: &Dealt, held: &Held, rule: &Rule) -> bool
     ensures { result ≡ list_all (λ test. test_by_counts dealt.now held.now test) rule.now.tests.items }
 {
     rule.tests

@@ -10,14 +10,14 @@ use Rattle.vp_run.proofs.EveryDeals.{check_true}
 
 -- calls that are a yes find no broken rule
 true_walks : (bytes : List ℕ) (c : Certificate) (walks : List Walk) → SpellsCertificate bytes c → AreYes bytes walks → AreTrueWalks walks c
-true_walks bytes c walks spells yes = record {
-  some = yes.some;
-  each = λ i d l. let one = yes.each i d l in check_true one.words _ _ bytes c one.asks spells one.yes;
+true_walks bytes c walks spells all = record {
+  some = all.some;
+  each = λ i d l. let one = all.each i d l in check_true one.words _ _ bytes c one.asks spells one.yes;
 }
 
 pub parts_tell_walked : PartsTellWalkedDeals
-parts_tell_walked bytes c walks from count spells yes walked =
-    walked_tell from count c spells.grammar (walks_join from count c spells.grammar walks (true_walks bytes c walks spells yes) walked)
+parts_tell_walked bytes c walks from count spells all walked =
+    walked_tell from count c spells.grammar (walks_join from count c spells.grammar walks (true_walks bytes c walks spells all) walked)
 
 pub parts_tell : PartsTellEveryDeal
-parts_tell bytes c walks spells yes walked = walks_tell c walks spells.grammar (true_walks bytes c walks spells yes) walked
+parts_tell bytes c walks spells all walked = walks_tell c walks spells.grammar (true_walks bytes c walks spells all) walked

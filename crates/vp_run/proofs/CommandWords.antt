@@ -4,16 +4,16 @@ use Rattle.std.specs.Prelude.{bytes_eq, codes, option_map}
 use Rattle.std.specs.Fmt.{decimal}
 use Rattle.std.proofs.lemmas.Slice.Eq.{bytes_eq-Decides}
 use Rattle.vp_text.specs.Lines.{Word}
-use Rattle.vp_text.specs.Numbers.{number_within}
+use Rattle.vp_text.specs.Numbers.{number_of, number_within}
 use Rattle.vp_text.specs.Pieces.{◌>>=◌}
-use Rattle.vp_text.proofs.Numbers.{number_within_exact}
+use Rattle.vp_text.proofs.Numbers.{number_exact, number_within_exact}
 use Rattle.vp_pay.specs.Names.{is_name}
 use Rattle.vp_text.proofs.Pieces.{bound, chosen}
-use Rattle.vp_run.specs.Commands.{AreInRange, CommandsAreSpelled, InRange, alone, bet, check, coin_of, command_of, command_words, lines_of, meter, meter_of, task_of, task_words, hands_of, multi}
+use Rattle.vp_run.specs.Commands.{AreInRange, CommandsAreSpelled, InRange, alone, bet, check, coin_of, command_of, command_words, meter, task_of, task_words, multi, play, compile}
 use Rattle.vp_run.specs.declared.command.Command.{Command}
 use Rattle.vp_run.specs.declared.command.Command.TheVariants.{Over, Tables}
 use Rattle.vp_run.specs.declared.command.Task.{Task}
-use Rattle.vp_run.specs.declared.command.Task.TheVariants.{Certify, Check, Deal, Replay, Meter, Audit, Multi}
+use Rattle.vp_run.specs.declared.command.Task.TheVariants.{Certify, Check, Deal, Replay, Meter, Audit, Multi, Play, Compile}
 
 -- the words spell the task, and its numbers are in range
 abbrev Spells : List Word → Task → Type 0
@@ -95,6 +95,39 @@ a_multi (first ∷ second ∷ []) read e =
     subst (λ (t : Task). Spells (codes "multi" ∷ first ∷ second ∷ []) t) same
     (ap (λ (w : Word). codes "multi" ∷ w ∷ second ∷ []) (sym f.1) ∙ ap (λ (w : Word). codes "multi" ∷ decimal coin.value ∷ w ∷ []) (sym n.1), record { some_coin = f.0.0; most_coin = f.0.1; some = n.0.0; most = n.0.1 })
 
+-- the same words of a made log
+play_same : (a b c d e f : Word) → a ≡ b → c ≡ d → e ≡ f → codes "play" ∷ a ∷ c ∷ e ∷ [] ≡ codes "play" ∷ b ∷ d ∷ f ∷ []
+play_same a b c d e f p q r = rw (p, q, r) refl
+
+a_play : (numbers : List Word) (read : Task) → play numbers ≡ Some read → Spells (codes "play" ∷ numbers) read
+a_play [] read e = absurd cc
+a_play (first ∷ []) read e = absurd cc
+a_play (first ∷ second ∷ []) read e = absurd cc
+a_play (first ∷ second ∷ third ∷ fourth ∷ more) read e = absurd cc
+a_play (first ∷ second ∷ third ∷ []) read e =
+    let coin = bound (number_within 1 5 first) _ read e in
+    let seed = bound (number_of second) _ read coin.then in
+    let games = bound (number_within 1 100000 third) _ read seed.then in
+    let f = digits 1 5 first coin.value (omega arith) coin.first in
+    let s = number_exact.takes second seed.value seed.first in
+    let n = digits 1 100000 third games.value (omega arith) games.first in
+    let same : Play coin.value seed.value games.value ≡ read = (let e : Some (Play coin.value seed.value games.value) ≡ Some read = games.then in cc) in
+    subst (λ (t : Task). Spells (codes "play" ∷ first ∷ second ∷ third ∷ []) t) same
+    (play_same _ _ _ _ _ _ (sym f.1) (sym s.1) (sym n.1), record { some_coin = f.0.0; most_coin = f.0.1; most_seed = s.0; some = n.0.0; most = n.0.1 })
+
+a_compile : (numbers : List Word) (read : Task) → compile numbers ≡ Some read → Spells (codes "compile" ∷ numbers) read
+a_compile [] read e = absurd cc
+a_compile (first ∷ []) read e = absurd cc
+a_compile (first ∷ second ∷ third ∷ more) read e = absurd cc
+a_compile (first ∷ second ∷ []) read e =
+    let coin = bound (number_within 1 5 first) _ read e in
+    let millionths = bound (number_within 0 1000000 second) _ read coin.then in
+    let f = digits 1 5 first coin.value (omega arith) coin.first in
+    let n = digits 0 1000000 second millionths.value (omega arith) millionths.first in
+    let same : Compile coin.value millionths.value ≡ read = (let e : Some (Compile coin.value millionths.value) ≡ Some read = millionths.then in cc) in
+    subst (λ (t : Task). Spells (codes "compile" ∷ first ∷ second ∷ []) t) same
+    (ap (λ (w : Word). codes "compile" ∷ w ∷ second ∷ []) (sym f.1) ∙ ap (λ (w : Word). codes "compile" ∷ decimal coin.value ∷ w ∷ []) (sym n.1), record { some_coin = f.0.0; most_coin = f.0.1; most = n.0.1 })
+
 -- a word that is this key, and else the choice behind it
 keyed : (key word : Word) (numbers : List Word) (here other : Option Task) (read : Task) → (if bytes_eq word key then here else other) ≡ Some read
     → (here ≡ Some read → Spells (key ∷ numbers) read) → (other ≡ Some read → Spells (word ∷ numbers) read) → Spells (word ∷ numbers) read
@@ -112,7 +145,9 @@ task_spelled word numbers read e =
     keyed (codes "audit") word numbers (bet Audit numbers) _ read e (a_bet (codes "audit") Audit (λ coin. refl) (λ coin is. is) numbers read) (λ e.
     keyed (codes "check") word numbers (check numbers) _ read e (a_check numbers read) (λ e.
     keyed (codes "meter") word numbers (meter numbers) _ read e (a_meter numbers read) (λ e.
-    keyed (codes "multi") word numbers (multi numbers) None read e (a_multi numbers read) (λ none. absurd cc))))))
+    keyed (codes "multi") word numbers (multi numbers) _ read e (a_multi numbers read) (λ e.
+    keyed (codes "play") word numbers (play numbers) _ read e (a_play numbers read) (λ e.
+    keyed (codes "compile") word numbers (compile numbers) None read e (a_compile numbers read) (λ none. absurd cc))))))))
 
 task_read : (task : Task) → InRange task → command_of (task_words task) ≡ Some (Over task)
 unfolding command_of task_of coin_of
@@ -139,6 +174,18 @@ task_read (Multi coin hands) is =
     let n = (number_within_exact 1 100 (omega arith)).again hands (is.some, is.most) in
     ap (λ o. option_map Over (o >>= λ a. number_within 1 100 (decimal hands) >>= λ b. Some (Multi a b))) f
     ∙ ap (λ o. option_map Over (o >>= λ b. Some (Multi coin b))) n
+task_read (Play coin seed games) is =
+    let f = (number_within_exact 1 5 (omega arith)).again coin (is.some_coin, is.most_coin) in
+    let s = number_exact.again seed is.most_seed in
+    let n = (number_within_exact 1 100000 (omega arith)).again games (is.some, is.most) in
+    ap (λ o. option_map Over (o >>= λ a. number_of (decimal seed) >>= λ b. number_within 1 100000 (decimal games) >>= λ c. Some (Play a b c))) f
+    ∙ ap (λ o. option_map Over (o >>= λ b. number_within 1 100000 (decimal games) >>= λ c. Some (Play coin b c))) s
+    ∙ ap (λ o. option_map Over (o >>= λ c. Some (Play coin seed c))) n
+task_read (Compile coin millionths) is =
+    let f = (number_within_exact 1 5 (omega arith)).again coin (is.some_coin, is.most_coin) in
+    let n = (number_within_exact 0 1000000 (omega arith)).again millionths (omega arith, is.most) in
+    ap (λ o. option_map Over (o >>= λ a. number_within 0 1000000 (decimal millionths) >>= λ b. Some (Compile a b))) f
+    ∙ ap (λ o. option_map Over (o >>= λ b. Some (Compile coin b))) n
 
 -- the words of a command that were read
 abbrev Says : List Word → Command → Type 0

@@ -1,7 +1,6 @@
 -- The certificates that `certify` prints and `check` finds no fault with are true, so they tell every deal.
 use Rattle.std.proofs.Common.{◌≡◌, ℕ, ◌≤◌, List, refl, sym, ap, subst, ◌∙◌, arith, Option, Some, None}
-use Rattle.std.specs.Prelude.{IsTrue, nat_le, Ok}
-use Rattle.std.proofs.lemmas.Bool.Decides.{nat_tests}
+use Rattle.std.specs.Prelude.{Ok}
 use Rattle.vp_text.specs.Lines.{Feed, Word, feed_of}
 use Rattle.vp_text.specs.Written.{written}
 use Rattle.vp_pay.specs.declared.table.PayTable.{PayTable}
@@ -29,12 +28,10 @@ use Rattle.vp_run.specs.EveryDeal.{CertificatesAreChecked, IsCheckedWell, Certif
 use Rattle.vp_answer.proofs.Inputs.{tables_read}
 use Rattle.vp_run.proofs.CheckInputs.{judged}
 use Rattle.vp_run.proofs.CommandWords.{in_range}
+use Rattle.vp_run.proofs.FittingBets.{bet_fits}
 use Rattle.vp_run.proofs.NoCommand.{answer_as}
 
 -- ---- certify
-
-bet_fits : (coin coins : ℕ) → IsTrue (nat_le coin coins) → coin ≤ coins
-bet_fits coin coins fits = grind (arith, nat_tests)
 
 -- the bet of an input of `certify` is one of its table
 bet_found : (words : List Word) (coin : ℕ) (bytes : List ℕ) (table : PayTable) → command_of words ≡ Some (Over (Certify coin)) → certify_input coin bytes ≡ Ok (table, tt) → IsBet table coin

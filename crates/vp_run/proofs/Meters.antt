@@ -1,8 +1,7 @@
 -- The line with a name, and what the answer of `meter` tells.
 use Rattle.std.proofs.Common.{◌≡◌, ◌⊎◌, inl, inr, ℕ, ◌<◌, ◌≤◌, Bool, true, false, List, [], length, map, get_or, refl, sym, ap, ◌∙◌, arith, Option, Some, None}
-use Rattle.std.specs.Prelude.{IsTrue, Ok, bytes_eq, is_some, nat_le, slice_index_or, ◌&&◌, if◌then◌else◌}
+use Rattle.std.specs.Prelude.{Ok, bytes_eq, is_some, slice_index_or, ◌&&◌, if◌then◌else◌}
 use Rattle.std.specs.Option.{unwrap_or}
-use Rattle.std.proofs.lemmas.Bool.Decides.{nat_tests}
 use Rattle.std.proofs.lemmas.List.{get_or-map}
 use Rattle.std.proofs.lemmas.List.Quantifiers.{position-Some}
 use Rattle.std.proofs.lemmas.Slice.Eq.{bytes_eq-Decides}
@@ -27,6 +26,7 @@ use Rattle.vp_run.specs.Meter.{Ranged, has_line, line_place, meter_input, meteri
 use Rattle.vp_run.specs.declared.command.Command.TheVariants.{Over}
 use Rattle.vp_run.specs.declared.command.Task.TheVariants.{Meter}
 use Rattle.vp_run.proofs.CommandWords.{in_range}
+use Rattle.vp_run.proofs.FittingBets.{bet_fits}
 use Rattle.vp_run.proofs.NoCommand.{answer_as}
 
 -- ---- the line with a name
@@ -62,9 +62,6 @@ both false b h = absurd cc
 some_place : (place : Option ℕ) → is_some place ≡ true → (found : ℕ) × (place ≡ Some found)
 some_place (Some found) h = (found, refl)
 some_place None h = absurd cc
-
-bet_fits : (coin coins : ℕ) → IsTrue (nat_le coin coins) → coin ≤ coins
-bet_fits coin coins fits = grind (arith, nat_tests)
 
 -- the answer of `meter` to what its input says
 meter_as : (words : List Word) (coin lo hi : ℕ) (name bytes : List ℕ) (table : PayTable) → command_of words ≡ Some (Over (Meter coin name lo hi)) → meter_input coin name bytes ≡ Ok (table, tt)

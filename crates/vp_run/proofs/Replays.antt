@@ -1,11 +1,10 @@
 -- What `replay` answers to a pay table and a log.
-use Rattle.std.proofs.Common.{◌≡◌, ℕ, ◌+◌, List, [], ◌∷◌, ◌++◌, length, refl, sym, ap, subst, ◌∙◌, arith, inl, inr, Option, Some, None}
+use Rattle.std.proofs.Common.{◌≡◌, ℕ, ◌+◌, List, [], ◌∷◌, refl, sym, ap, subst, ◌∙◌, arith, inl, inr, Option, Some, None}
 use Rattle.std.specs.Prelude.{Ok, Err, Result, ◌⊎◌}
 use Rattle.std.specs.List.{AllByRecursion}
 use Rattle.vp_text.specs.Lines.{Feed, Word}
-use Rattle.vp_text.specs.Reading.{◌>>=◌, mapped}
+use Rattle.vp_text.specs.Reading.{◌>>=◌}
 use Rattle.vp_text.specs.ExactReaders.{Exact}
-use Rattle.vp_text.specs.Written.{written}
 use Rattle.vp_text.proofs.Pieces.{same_value}
 use Rattle.vp_pay.specs.Table.{IsTable}
 use Rattle.vp_pay.specs.declared.table.PayTable.{PayTable}
@@ -93,11 +92,11 @@ first_at table game credits (e ∷ events) b is =
 
 -- ---- the answer
 
-costs_are : (table : PayTable) (credits : ℕ) (events : List Event) → AreLawfulGames table credits events → AllByRecursion (IsEvent table.deck) events → AllByRecursion (λ e. IsCost table e (cost_of table e)) events
-costs_are table credits [] games all = tt
-costs_are table credits (e ∷ events) games all = (cost_is table e (length-in_order e.deal ∙ all.0.deal) games.0.event.cards, costs_are table e.credits events games.1 all.1)
+costs_are : (table : PayTable) (credits : ℕ) (events : List Event) → IsTable table → AreLawfulGames table credits events → AllByRecursion (IsEvent table.deck) events → AllByRecursion (λ e. IsCost table e (cost_of table e)) events
+costs_are table credits [] known games all = tt
+costs_are table credits (e ∷ events) known games all = (cost_is table e known all.0.cards (length-in_order e.deal ∙ all.0.deal) games.0.event.cards, costs_are table e.credits events known games.1 all.1)
 
-judged : (table : PayTable) (log : LogValue) → IsLog table.deck log → (o : Option Broken) → break_in table log ≡ o → (due : Answer) → answer_read job_text (judged_log table log o) ≡ due
+judged : (table : PayTable) (log : LogValue) → IsTable table × IsLog table.deck log → (o : Option Broken) → break_in table log ≡ o → (due : Answer) → answer_read job_text (judged_log table log o) ≡ due
     → TellsCosts table log due ⊎ NamesBreak table log due
 judged table log valid None none due is =
     let games = lawful_games table 1 log.start log.events none in
@@ -105,15 +104,15 @@ judged table log valid None none due is =
       status = ap (λ (a : Answer). a.status) (sym is);
       text = ap (λ (a : Answer). a.text) (sym is);
       lawful = games;
-      costs = costs_are table log.start log.events games valid.events;
+      costs = costs_are table log.start log.events valid.0 games valid.1.events;
     })
 judged table log valid (Some b) some due is = inr (record { broken = b; first = first_at table 1 log.start log.events b some; named = sym is })
 
 -- the answer of `replay` to what its input says
-replay_as : (words : List Word) (bytes : List ℕ) (table : PayTable) (log : LogValue) → command_of words ≡ Some (Over Replay) → replay_input bytes ≡ Ok (table, log)
+pub replay_as : (words : List Word) (bytes : List ℕ) (table : PayTable) (log : LogValue) → command_of words ≡ Some (Over Replay) → replay_input bytes ≡ Ok (table, log)
     → answer_read job_text (judged_log table log (break_in table log)) ≡ answer words bytes
 replay_as words bytes table log is says = ap (λ r. answer_read job_text (log_read r)) (sym says) ∙ answer_as words (Some (Over Replay)) bytes is
 
 pub replays_tell : ReplaysTellCosts
 replays_tell words bytes table log is says =
-    judged table log (read_valid bytes table log says).1 (break_in table log) refl (answer words bytes) (replay_as words bytes table log is says)
+    judged table log (read_valid bytes table log says) (break_in table log) refl (answer words bytes) (replay_as words bytes table log is says)

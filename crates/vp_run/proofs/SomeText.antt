@@ -17,10 +17,11 @@ use Rattle.vp_answer.specs.declared.stop.Stop.TheVariants.{Finding, Refused}
 use Rattle.vp_run.specs.Answer.{answer, answer_to, built_in_text, job_of, job_text, tables_answer, usage}
 use Rattle.vp_run.specs.Check.{checked_lines}
 use Rattle.vp_run.specs.Commands.{command_of}
+use Rattle.vp_run.specs.Compile.{said_lines}
 use Rattle.vp_run.specs.declared.command.Command.{Command}
 use Rattle.vp_run.specs.declared.command.Command.TheVariants.{Over, Tables}
 use Rattle.vp_run.specs.declared.job.Job.{Job}
-use Rattle.vp_run.specs.declared.job.Job.TheVariants.{Certify, Checked, Deal, Replay, Meter, Audit, Multi}
+use Rattle.vp_run.specs.declared.job.Job.TheVariants.{Certify, Checked, Deal, Replay, Meter, Audit, Multi, Play, Compile}
 
 front_some : (front back : List ℕ) → 0 < length front → 0 < length (front ++ back)
 front_some front back some = omega (arith, length-append front back)
@@ -30,7 +31,7 @@ behind_some front back some = rw (flat_map-append line_of front back) (omega (ar
 
 -- a line for each job
 job_some : (job : Job) → 0 < length (job_text job)
-unfolding certificate_text table_text checked_lines meter_text head_words
+unfolding certificate_text table_text checked_lines meter_text head_words said_lines
 job_some (Deal d) = front_some (line_of (codes "deal" ∷ map card_text d.hand)) _ (omega (arith, length-append (spaced (codes "deal" ∷ map card_text d.hand)) (10 ∷ [])))
 job_some (Certify s) = omega arith
 job_some (Audit l) = omega arith
@@ -38,6 +39,8 @@ job_some (Checked c) = omega arith
 job_some (Replay l) = behind_some (cost_lines l.table true 1 l.log.events) (summary_lines l.table.deck (summary_of l.table l.log)) (omega arith)
 job_some (Meter r) = omega arith
 job_some (Multi d) = omega arith
+job_some (Play p) = omega arith
+job_some (Compile p) = omega arith
 
 read_some : (read : Result Job Stop) → 0 < length (answer_read job_text read).text
 unfolding finding_words

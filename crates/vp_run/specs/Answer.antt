@@ -19,7 +19,7 @@ use Rattle.vp_answer.specs.Answers.{Answer, answer_read, done}
 use Rattle.vp_answer.specs.declared.status.Status.TheVariants.{Usage}
 use Rattle.vp_answer.specs.declared.stop.Stop.{Stop}
 use Rattle.vp_answer.specs.declared.stop.Stop.TheVariants.{Finding as Found, Refused as Refusal}
-use Rattle.vp_rule.specs.Lists.{RuleList}
+use Rattle.vp_rule.specs.Lists.{RuleList, RulePool}
 use Rattle.vp_run.specs.Audit.{audit_input, audit_lines}
 use Rattle.vp_run.specs.Certify.{certify_input}
 use Rattle.vp_run.specs.Check.{checked_lines, rule_of}
@@ -29,12 +29,14 @@ use Rattle.vp_run.specs.Replay.{replay_input, rule_of as law_of}
 use Rattle.vp_run.specs.declared.command.Command.{Command}
 use Rattle.vp_run.specs.declared.command.Command.TheVariants.{Over, Tables}
 use Rattle.vp_run.specs.declared.command.Task.{Task}
-use Rattle.vp_run.specs.declared.command.Task.TheVariants.{Certify, Check, Deal, Replay, Meter, Audit, Multi}
+use Rattle.vp_run.specs.declared.command.Task.TheVariants.{Certify, Check, Deal, Replay, Meter, Audit, Multi, Play, Compile}
 use Rattle.vp_run.specs.declared.job.Job.{Job}
-use Rattle.vp_run.specs.declared.job.Job.TheVariants.{Certify as CertifyJob, Checked as CheckedJob, Deal as DealJob, Replay as ReplayJob, Meter as MeterJob, Audit as AuditJob, Multi as MultiJob}
+use Rattle.vp_run.specs.declared.job.Job.TheVariants.{Certify as CertifyJob, Checked as CheckedJob, Deal as DealJob, Replay as ReplayJob, Meter as MeterJob, Audit as AuditJob, Multi as MultiJob, Play as PlayJob, Compile as CompileJob}
 use Rattle.vp_run.specs.Meter.{meter_input, metering_of}
 use Rattle.vp_meter.specs.Spelling.{meter_text}
 use Rattle.vp_run.specs.Multi.{multi_input, multi_lines}
+use Rattle.vp_run.specs.Play.{play_input, play_lines}
+use Rattle.vp_run.specs.Compile.{compile_input, compile_lines}
 
 -- ---- what is read, and its text
 
@@ -57,6 +59,12 @@ audit_job coin read = AuditJob (record { table = read.0; coin = coin; list = rea
 
 abbrev pub multi_job : ℕ → ℕ → PayTable × Unit {0} → Job
 multi_job coin hands read = MultiJob (record { table = read.0; coin = coin; hands = hands })
+
+abbrev pub play_job : ℕ → ℕ → ℕ → PayTable × Unit {0} → Job
+play_job coin seed games read = PlayJob (record { table = read.0; coin = coin; seed = seed; games = games })
+
+abbrev pub compile_job : ℕ → ℕ → PayTable × RulePool → Job
+compile_job coin millionths read = CompileJob (record { table = read.0; coin = coin; millionths = millionths; pool = read.1 })
 
 -- what the check of a certificate gives
 abbrev pub check_read : Result Checked Finding → Result Job Stop
@@ -86,6 +94,8 @@ job_of (Check from count) bytes = check_read (check_result bytes from count)
 job_of Replay bytes = log_read (replay_input bytes)
 job_of (Meter coin name lo hi) bytes = read_as (meter_job coin name lo hi) (meter_input coin name bytes)
 job_of (Multi coin hands) bytes = read_as (multi_job coin hands) (multi_input coin bytes)
+job_of (Play coin seed games) bytes = read_as (play_job coin seed games) (play_input coin bytes)
+job_of (Compile coin millionths) bytes = read_as (compile_job coin millionths) (compile_input coin bytes)
 
 -- the text of a job
 abbrev pub job_text : Job → List ℕ
@@ -103,6 +113,10 @@ job_text (ReplayJob l) = written (replay_lines l.table l.log)
 job_text (MeterJob r) = written (meter_text r.metering r.lo r.hi)
 -- of `multi`: the four lines of the moments
 job_text (MultiJob d) = written (multi_lines d)
+-- of `play`: the numbers of the log that is made
+job_text (PlayJob p) = written (play_lines p)
+-- of `compile`: the numbers that are said of the list, and the list
+job_text (CompileJob p) = written (compile_lines p)
 
 -- ---- words that need no input
 

@@ -1,14 +1,14 @@
 -- The words of the commands.
-use Rattle.std.specs.Prelude.{◌≡◌, ◌↔◌, ℕ, ◌≤◌, Bool, true, false, List, [], ◌∷◌, Option, Some, None, option_map, bytes_eq, codes, if◌then◌else◌}
+use Rattle.std.specs.Prelude.{◌≡◌, ◌↔◌, ℕ, ◌^◌, ◌<◌, ◌≤◌, Bool, true, false, List, [], ◌∷◌, Option, Some, None, option_map, bytes_eq, codes, if◌then◌else◌}
 use Rattle.std.specs.Fmt.{decimal}
 use Rattle.vp_text.specs.Lines.{Word}
-use Rattle.vp_text.specs.Numbers.{number_within}
+use Rattle.vp_text.specs.Numbers.{number_of, number_within}
 use Rattle.vp_text.specs.Pieces.{◌>>=◌}
 use Rattle.vp_pay.specs.Names.{is_name}
 use Rattle.vp_run.specs.declared.command.Command.{Command}
 use Rattle.vp_run.specs.declared.command.Command.TheVariants.{Over, Tables}
 use Rattle.vp_run.specs.declared.command.Task.{Task}
-use Rattle.vp_run.specs.declared.command.Task.TheVariants.{Certify, Check, Deal, Replay, Meter, Audit, Multi}
+use Rattle.vp_run.specs.declared.command.Task.TheVariants.{Certify, Check, Deal, Replay, Meter, Audit, Multi, Play, Compile}
 
 -- ---- how a command is spelled
 
@@ -21,6 +21,8 @@ task_words (Check from count) = codes "check" ∷ decimal from ∷ decimal count
 task_words Replay = codes "replay" ∷ []
 task_words (Meter coin line lo hi) = codes "meter" ∷ decimal coin ∷ line ∷ decimal lo ∷ decimal hi ∷ []
 task_words (Multi coin hands) = codes "multi" ∷ decimal coin ∷ decimal hands ∷ []
+task_words (Play coin seed games) = codes "play" ∷ decimal coin ∷ decimal seed ∷ decimal games ∷ []
+task_words (Compile coin millionths) = codes "compile" ∷ decimal coin ∷ decimal millionths ∷ []
 
 -- the words of a command
 abbrev pub command_words : Command → List Word
@@ -48,6 +50,20 @@ pub record AreHands (coin hands : ℕ) : Type 0 where
   pub some : 1 ≤ hands
   pub most : hands ≤ 100
 
+-- a bet is 1 to 5, a seed has 64 bits, and 1 to 100000 games are made
+pub record IsPlay (coin seed games : ℕ) : Type 0 where
+  pub some_coin : 1 ≤ coin
+  pub most_coin : coin ≤ 5
+  pub most_seed : seed < 2 ^ 64
+  pub some : 1 ≤ games
+  pub most : games ≤ 100000
+
+-- a bet is 1 to 5, and 0 to 1000000 millionths may be lost
+pub record IsCompile (coin millionths : ℕ) : Type 0 where
+  pub some_coin : 1 ≤ coin
+  pub most_coin : coin ≤ 5
+  pub most : millionths ≤ 1000000
+
 -- the numbers of a task are in range: a bet is 1 to 5
 abbrev pub InRange : Task → Type 0
 InRange (Deal coin) = (1 ≤ coin) × (coin ≤ 5)
@@ -57,6 +73,8 @@ InRange (Check from count) = IsRange from count
 InRange Replay = Unit {0}
 InRange (Meter coin line lo hi) = IsMeter coin line lo hi
 InRange (Multi coin hands) = AreHands coin hands
+InRange (Play coin seed games) = IsPlay coin seed games
+InRange (Compile coin millionths) = IsCompile coin millionths
 
 -- the same of a command
 abbrev pub AreInRange : Command → Type 0
@@ -109,6 +127,29 @@ abbrev pub multi : List Word → Option Task
 multi (first ∷ second ∷ []) = hands_of first second
 multi _ = None
 
+-- a bet, a seed, and the number of games
+abbrev pub play_of : Word → Word → Word → Option Task
+play_of first second third = do
+  coin ← number_within 1 5 first
+  seed ← number_of second
+  games ← number_within 1 100000 third
+  Some (Play coin seed games)
+
+abbrev pub play : List Word → Option Task
+play (first ∷ second ∷ third ∷ []) = play_of first second third
+play _ = None
+
+-- a bet, and how many millionths may be lost
+abbrev pub compile_of : Word → Word → Option Task
+compile_of first second = do
+  coin ← number_within 1 5 first
+  millionths ← number_within 0 1000000 second
+  Some (Compile coin millionths)
+
+abbrev pub compile : List Word → Option Task
+compile (first ∷ second ∷ []) = compile_of first second
+compile _ = None
+
 -- the task that a word and its numbers are
 unfoldable pub task_of : Word → List Word → Option Task
 task_of word numbers =
@@ -118,7 +159,9 @@ task_of word numbers =
     else (if bytes_eq word (codes "check") then check numbers
     else (if bytes_eq word (codes "meter") then meter numbers
     else (if bytes_eq word (codes "multi") then multi numbers
-    else None)))))
+    else (if bytes_eq word (codes "play") then play numbers
+    else (if bytes_eq word (codes "compile") then compile numbers
+    else None)))))))
 
 -- the command of a word alone
 abbrev pub alone : Word → Option Command

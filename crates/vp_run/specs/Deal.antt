@@ -1,5 +1,5 @@
 -- `deal`: what its input says, what it prints, and what that tells.
-use Rattle.std.specs.Prelude.{◌≡◌, ℕ, ◌*◌, ◌<◌, ◌≤◌, true, nat_le, Bool, List, [], ◌∷◌, ◌++◌, Result, codes, length, map}
+use Rattle.std.specs.Prelude.{◌≡◌, ℕ, true, nat_le, Bool, List, [], ◌∷◌, ◌++◌, Result, codes, map}
 use Rattle.std.specs.Fmt.{decimal}
 use Rattle.vp_card.specs.Cards.{IsHand, held, in_deck, in_order}
 use Rattle.vp_card.specs.Texts.{card_text}

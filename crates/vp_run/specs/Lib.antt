@@ -2,6 +2,8 @@ pub mod Commands
 pub mod Deal
 pub mod Certify
 pub mod Multi
+pub mod Play
+pub mod Compile
 pub mod Check
 pub mod Replay
 pub mod Meter
@@ -12,4 +14,7 @@ pub mod Arguments
 pub mod EveryDeal
 pub mod CheckedInParts
 pub mod Replayed
+pub mod Played
+pub mod PrintedLists
 pub mod Losses
+pub mod Moments

@@ -1,13 +1,15 @@
 -- What the answer of `audit` tells.
-use Rattle.std.specs.Prelude.{◌≡◌, ℕ, ◌-◌, List, None, Some, Ok, slice_index_or, sum_by}
+use Rattle.std.specs.Prelude.{◌≡◌, ℕ, ◌+◌, ◌-◌, ◌≤◌, List, None, Some, Ok, slice_index_or, sum_by}
 use Rattle.vp_text.specs.Lines.{Word}
 use Rattle.vp_text.specs.Written.{written}
 use Rattle.vp_pay.specs.declared.table.PayTable.{PayTable}
-use Rattle.vp_draws.specs.Draws.{sum_of_best}
+use Rattle.vp_sets.specs.Sets.{choose}
+use Rattle.vp_suit.specs.Classes.{IsDeal, representative}
+use Rattle.vp_draws.specs.Draws.{best, sum_of_best, value}
 use Rattle.vp_rule.specs.Lists.{RuleList}
-use Rattle.vp_audit.specs.Audits.{audited, deals}
-use Rattle.vp_audit.specs.Laws.{IsLeastAllowed}
-use Rattle.vp_audit.specs.Values.{deciding, excepted, least_value, no_rule}
+use Rattle.vp_audit.specs.Audits.{audited, deals, shared_deals, shared_loss}
+use Rattle.vp_audit.specs.Laws.{IsChargedJust, IsGreatestAllowed, IsLeastAllowed}
+use Rattle.vp_audit.specs.Values.{deciding, excepted, greatest_value, least_value, no_rule}
 use Rattle.vp_answer.specs.Answers.{Answer}
 use Rattle.vp_answer.specs.declared.status.Status.TheVariants.{Done}
 use Rattle.vp_run.specs.Answer.{answer}
@@ -16,15 +18,27 @@ use Rattle.vp_run.specs.Commands.{command_of}
 use Rattle.vp_run.specs.declared.command.Command.TheVariants.{Over}
 use Rattle.vp_run.specs.declared.command.Task.TheVariants.{Audit}
 
--- the answer are the lines of a list, the loss among them. It is the sum over all deals of the best values, less that of the least
--- values; and where no exception is of a deal's class, and a rule is the first that matches some hold, the least value is the least
--- among the holds that this rule matches
+-- The answer are the lines of a list, the loss among them. It is the sum over all deals of the best values, less that of the least
+-- values, none of which exceeds the best value of its deal. Where an exception is of a deal's class, the deal is worth what the
+-- exception's hold of the representative is; else, where a rule is the first that matches some hold, the least (greatest) value is the
+-- least (greatest) among the holds that this rule matches; else the deal is worth what holding nothing is. The deals of the tallies sum
+-- to the number of all deals, and their losses to the loss.
 pub record PrintsLoss (l : Listed) (due : Answer) : Type 0 where
   pub status : due.status ≡ Done
   pub text : due.text ≡ written (audit_lines l)
   pub loss : (audited l.table l.coin l.list).loss ≡ sum_of_best l.table l.coin - sum_by (least_value l.table l.coin l.list) (deals l.table.deck)
+  pub whole : sum_by (least_value l.table l.coin l.list) (deals l.table.deck) + (audited l.table l.coin l.list).loss ≡ sum_of_best l.table l.coin
+  pub below : (cards : List ℕ) → IsDeal l.table.deck cards → least_value l.table l.coin l.list cards ≤ best l.table l.coin cards
+  pub exceptions : (cards : List ℕ) (mask : ℕ) → excepted l.list.exceptions cards ≡ Some mask
+      → IsChargedJust l.table l.coin l.list cards (value l.table l.coin (representative cards) mask)
   pub ruled : (cards : List ℕ) (place : ℕ) → excepted l.list.exceptions cards ≡ None → deciding l.table l.list.rules cards ≡ Some place
       → IsLeastAllowed l.table l.coin (slice_index_or l.list.rules place no_rule) cards (least_value l.table l.coin l.list cards)
+  pub greatest : (cards : List ℕ) (place : ℕ) → excepted l.list.exceptions cards ≡ None → deciding l.table l.list.rules cards ≡ Some place
+      → IsGreatestAllowed l.table l.coin (slice_index_or l.list.rules place no_rule) cards (greatest_value l.table l.coin l.list cards)
+  pub nothing : (cards : List ℕ) → excepted l.list.exceptions cards ≡ None → deciding l.table l.list.rules cards ≡ None
+      → IsChargedJust l.table l.coin l.list cards (value l.table l.coin cards 0)
+  pub shared : shared_deals (audited l.table l.coin l.list) ≡ choose l.table.deck 5
+  pub losses : shared_loss (audited l.table l.coin l.list) ≡ (audited l.table l.coin l.list).loss
 
 -- the answer of `audit` to each pay table and list that it takes
 abbrev pub AuditsPrintLosses : Type 0

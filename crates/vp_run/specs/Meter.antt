@@ -1,8 +1,6 @@
 -- `meter`: what its input says, and what its text tells.
-use Rattle.std.specs.Prelude.{◌≡◌, ℕ, ◌≤◌, Bool, ◌&&◌, List, [], Option, Some, Result, Ok, bytes_eq, is_some, map, position, slice_index_or}
+use Rattle.std.specs.Prelude.{ℕ, ◌≤◌, Bool, ◌&&◌, List, Option, Result, bytes_eq, is_some, position}
 use Rattle.std.specs.Option.{unwrap_or}
-use Rattle.vp_text.specs.Lines.{Word}
-use Rattle.vp_text.specs.Written.{written}
 use Rattle.vp_pay.specs.declared.table.PayTable.{PayTable}
 use Rattle.vp_meter.specs.Metered.{IsMetering, Metering}
 use Rattle.vp_answer.specs.Inputs.{AreRead, RefusesTable, SpellsTable, table_input}

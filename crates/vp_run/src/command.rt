@@ -1,7 +1,7 @@
 //! The commands, as the words of the command line spell them.
 
 ghost use Rattle.std.specs.Prelude.{◌≡◌, ◌≤◌, ℕ, map, option_map, IfSome};
-ghost use Rattle.vp_run.specs.Commands.{AreInRange, InRange, alone, bet, check, coin_of, command_of, lines_of, task_of, meter, meter_of, hands_of, multi};
+ghost use Rattle.vp_run.specs.Commands.{AreInRange, InRange, alone, bet, check, coin_of, command_of, lines_of, task_of, meter, meter_of, hands_of, multi, play, play_of, compile, compile_of};
 ghost use Rattle.vp_run.specs.declared.command.Task.{Task};
 ghost use Rattle.vp_text.specs.Numbers.{number_within};
 
@@ -38,6 +38,19 @@ pub enum Task {
     Multi {
         coin: u8,
         hands: u8,
+    },
+    /// `play COIN SEED GAMES`: the numbers of a log of 1 to 100000 games that is made from a seed, for a bet of 1 to 5
+    /// coins.
+    Play {
+        coin: u8,
+        seed: u64,
+        games: u32,
+    },
+    /// `compile COIN MILLIONTHS`: a strategy list out of a pool, which loses at most so many millionths, 0 to 1000000, of
+    /// the denominator of the return, for a bet of 1 to 5 coins.
+    Compile {
+        coin: u8,
+        millionths: u32,
     },
 }
 
@@ -88,6 +101,8 @@ fn task_of(word: &str, numbers: &[&str]) -> Option<Task>
         "check" => lines(numbers),
         "meter" => meter(numbers),
         "multi" => hands(numbers),
+        "play" => play(numbers),
+        "compile" => compile(numbers),
         _ => None,
     }
 }
@@ -183,6 +198,56 @@ fn hands_of(coin: &[u8], hands: &[u8]) -> Option<Task>
     Some(Task::Multi {
         coin: coin as u8,
         hands: hands as u8,
+    })
+}
+
+/// A bet, the seed of a log, and its number of games.
+fn play(numbers: &[&str]) -> Option<Task>
+    ensures is { result ≡ play (map (λ w. w.now) numbers.now) }
+    ensures range { IfSome result InRange }
+{
+    match numbers {
+        [coin, seed, games] => play_of(coin.as_bytes(), seed.as_bytes(), games.as_bytes()),
+        _ => None,
+    }
+}
+
+/// The made log that three words spell.
+fn play_of(coin: &[u8], seed: &[u8], games: &[u8]) -> Option<Task>
+    ensures is { result ≡ play_of coin.now seed.now games.now }
+    ensures range { IfSome result InRange }
+{
+    let coin = number_within(1, 5, coin)?;
+    let seed = number(seed)?;
+    let games = number_within(1, 100_000, games)?;
+    Some(Task::Play {
+        coin: coin as u8,
+        seed,
+        games,
+    })
+}
+
+/// A bet, and how much may be lost.
+fn compile(numbers: &[&str]) -> Option<Task>
+    ensures is { result ≡ compile (map (λ w. w.now) numbers.now) }
+    ensures range { IfSome result InRange }
+{
+    match numbers {
+        [coin, millionths] => compile_of(coin.as_bytes(), millionths.as_bytes()),
+        _ => None,
+    }
+}
+
+/// The bet and the millionths that two words spell.
+fn compile_of(coin: &[u8], millionths: &[u8]) -> Option<Task>
+    ensures is { result ≡ compile_of coin.now millionths.now }
+    ensures range { IfSome result InRange }
+{
+    let coin = number_within(1, 5, coin)?;
+    let millionths = number_within(0, 1_000_000, millionths)?;
+    Some(Task::Compile {
+        coin: coin as u8,
+        millionths,
     })
 }
 

@@ -3,7 +3,7 @@
 ghost use Rattle.std.specs.Prelude.{◌≡◌, ◌≤◌, length};
 ghost use Rattle.vp_loggram.specs.Logs.{IsLog};
 ghost use Rattle.vp_pay.specs.Table.{IsTable};
-ghost use Rattle.vp_run.specs.Answer.{certify_job, check_read, deal_job, job_of, log_read, read_as, replay_read, meter_job, audit_job, multi_job};
+ghost use Rattle.vp_run.specs.Answer.{certify_job, check_read, deal_job, job_of, log_read, read_as, replay_read, meter_job, audit_job, multi_job, play_job, compile_job};
 ghost use Rattle.vp_run.specs.Audit.{audit_input};
 ghost use Rattle.vp_run.specs.Certify.{certify_input};
 ghost use Rattle.vp_run.specs.Commands.{InRange};
@@ -11,14 +11,18 @@ ghost use Rattle.vp_run.specs.Deal.{deal_input};
 ghost use Rattle.vp_run.specs.Replay.{replay_input};
 ghost use Rattle.vp_run.specs.Meter.{meter_input};
 ghost use Rattle.vp_run.specs.Multi.{multi_input};
+ghost use Rattle.vp_run.specs.Play.{play_input};
+ghost use Rattle.vp_run.specs.Compile.{compile_input};
 
 use crate::audit::{AuditJob, read_audit_input};
 use crate::certify::{CertifyJob, read_certify_input};
 use crate::check::{put_checked, rule_of};
 use crate::command::Task;
+use crate::compile::{CompileJob, read_compile_input};
 use crate::deal::{DealJob, read_deal_input};
 use crate::meter::{MeterJob, read_meter_input};
 use crate::multi::MultiJob;
+use crate::play::PlayJob;
 use crate::replay::{ReplayJob, first_break, read_replay_input, rule_of as law_of};
 use std::alloc::Global;
 use vp_answer::{PutStop, Stop, Work};
@@ -38,6 +42,8 @@ pub enum Job<'a> {
     Replay(ReplayJob<'a>),
     Meter(MeterJob),
     Multi(MultiJob),
+    Play(PlayJob),
+    Compile(CompileJob),
 }
 
 impl<'a> Work for Job<'a> {
@@ -59,6 +65,8 @@ impl<'a> Work for Job<'a> {
             Job::Replay(job) => job.words(),
             Job::Meter(job) => job.words(),
             Job::Multi(job) => job.words(),
+            Job::Play(job) => job.words(),
+            Job::Compile(job) => job.words(),
         }
     }
 
@@ -71,18 +79,23 @@ impl<'a> Work for Job<'a> {
             Job::Replay(job) => job.put(region, sink),
             Job::Meter(job) => job.put(region, sink),
             Job::Multi(job) => job.put(region, sink),
+            Job::Play(_) | Job::Compile(_) => unreachable!(),
         }
     }
 
     fn put_asking<K: Sink>(
         &self,
-        _alloc: Global,
+        alloc: Global,
         region: &mut Region,
         sink: &mut K,
     ) -> Result<(), PutStop> {
-        match self.put(region, sink) {
-            Ok(()) => Ok(()),
-            Err(WriteFault) => Err(PutStop::WriteFault),
+        match self {
+            Job::Play(job) => job.put(alloc, region, sink),
+            Job::Compile(job) => job.put(alloc, region, sink),
+            _ => match self.put(region, sink) {
+                Ok(()) => Ok(()),
+                Err(WriteFault) => Err(PutStop::WriteFault),
+            },
         }
     }
 }
@@ -101,6 +114,8 @@ pub(crate) fn job_of(task: Task, bytes: &[u8]) -> Result<Job<'_>, Stop>
         Task::Replay => replay_job(bytes),
         Task::Meter { coin, line, lo, hi } => meter_job(coin, &line, lo, hi, bytes),
         Task::Multi { coin, hands } => multi_job(coin, hands, bytes),
+        Task::Play { coin, seed, games } => play_job(coin, seed, games, bytes),
+        Task::Compile { coin, millionths } => compile_job(coin, millionths, bytes),
     }
 }
 
@@ -148,6 +163,31 @@ fn multi_job(coin: u8, hands: u8, bytes: &[u8]) -> Result<Job<'_>, Stop>
 {
     match read_certify_input(bytes, coin) {
         Ok(table) => Ok(Job::Multi(MultiJob::new(table, coin, hands))),
+        Err(refused) => Err(Stop::Refused { line: refused.line }),
+    }
+}
+
+fn play_job(coin: u8, seed: u64, games: u32, bytes: &[u8]) -> Result<Job<'_>, Stop>
+    requires some { 1 ≤ coin }
+    requires games { 1 ≤ games }
+    requires most { games ≤ 100000 }
+    requires limit { length bytes.now ≤ 67108864 }
+    ensures { result ≡ read_as (play_job coin seed games) (play_input coin bytes.now) }
+{
+    match read_certify_input(bytes, coin) {
+        Ok(table) => Ok(Job::Play(PlayJob::new(table, coin, seed, games))),
+        Err(refused) => Err(Stop::Refused { line: refused.line }),
+    }
+}
+
+fn compile_job(coin: u8, millionths: u32, bytes: &[u8]) -> Result<Job<'_>, Stop>
+    requires some { 1 ≤ coin }
+    requires most { millionths ≤ 1000000 }
+    requires limit { length bytes.now ≤ 67108864 }
+    ensures { result ≡ read_as (compile_job coin millionths) (compile_input coin bytes.now) }
+{
+    match read_compile_input(bytes, coin) {
+        Ok((table, pool)) => Ok(Job::Compile(CompileJob::new(table, coin, millionths, pool))),
         Err(refused) => Err(Stop::Refused { line: refused.line }),
     }
 }

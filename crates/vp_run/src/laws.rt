@@ -10,8 +10,13 @@ ghost use Rattle.vp_run.specs.Replayed.{ReplaysTellCosts};
 ghost use Rattle.vp_run.specs.CheckedInParts.{PartsTellEveryDeal, PartsTellWalkedDeals};
 ghost use Rattle.vp_run.specs.EveryDeal.{CertificatesAreChecked, CertificatesTellEveryDeal, ChecksTellEveryDeal, ChecksTellWalkedDeals, DealsPrintBestHolds, MetersAreTold};
 ghost use Rattle.vp_run.specs.Meter.{MeterInputsAreRead};
+ghost use Rattle.vp_run.specs.Moments.{MultisPrintMoments};
 ghost use Rattle.vp_run.specs.Multi.{MultiInputsAreRead};
+ghost use Rattle.vp_run.specs.Play.{PlayInputsAreRead};
+ghost use Rattle.vp_run.specs.Played.{PlaysAreReplayed};
 ghost use Rattle.vp_run.specs.Losses.{AuditsPrintLosses};
+ghost use Rattle.vp_run.specs.Compile.{CompileInputsAreRead};
+ghost use Rattle.vp_run.specs.PrintedLists.{CompiledListsAreAudited, CompiledListsLoseLittle};
 
 /// Words are a command exactly where they spell it: its name, and its numbers in decimal digits, each in its range.
 pub fn commands_are_spelled()
@@ -47,6 +52,12 @@ pub fn multi_inputs_are_read()
     ensures { MultiInputsAreRead }
 {}
 
+/// What `play` takes for its input is what the lines of the input spell: a valid pay table that has the bet, and nothing
+/// else. Every other input is refused, exactly at its refused line.
+pub fn play_inputs_are_read()
+    ensures { PlayInputsAreRead }
+{}
+
 /// What `check` takes for its input is what the lines of the input spell: a certificate in the grammar, and nothing else.
 /// It is answered by its first broken rule, where there is one. Every other input is refused, exactly at its refused line.
 pub fn check_inputs_are_read()
@@ -68,6 +79,13 @@ pub fn replay_inputs_are_read()
 /// that stands there and the number due.
 pub fn replays_tell_costs()
     ensures { ReplaysTellCosts }
+{}
+
+/// The answer of `play` to each pay table that it takes prints the numbers of a log that is in the grammar of logs and
+/// breaks no law: what is written of the pay table and that log is an input of `replay`, whose answer is the lines of the
+/// costs, and behind them the same six lines.
+pub fn plays_are_replayed()
+    ensures { PlaysAreReplayed }
 {}
 
 /// The answer of `deal` to each pay table and deal that it takes are four lines that print a best hold: its mask is one of
@@ -119,8 +137,39 @@ pub fn meters_are_told()
 {}
 
 /// The answer of `audit` to each pay table and list that it takes prints the loss of the list: the optimum, which is the
-/// sum over all deals of the best values, less the sum over all deals of the least value that the list allows; among the
-/// holds that the first matching rule matches, where no exception is one of the deal's class.
+/// sum over all deals of the best values, less the sum over all deals of the least value that the list allows, which never
+/// exceeds the best one: that of the exception's hold, where an exception is one of the deal's class; else the least among
+/// the holds that the first matching rule matches; else that of holding nothing. The lines of the exceptions, of the rules
+/// and of no rule share out all deals and the loss.
 pub fn audits_print_losses()
     ensures { AuditsPrintLosses }
+{}
+
+/// The answer of `multi` to each pay table that it takes are four lines, whose numbers are the moments of the total payment
+/// of several hands from one deal: each deal has a printed hold, to which its hands are drawn; the moments of the deal over
+/// all lists of draws, each as likely as the others, are these and no others; the mean and the second moment are summed
+/// over all deals; and the variance is that within the draws of a deal, once for each hand, and that between the deals,
+/// once for each pair of hands.
+pub fn multis_print_moments()
+    ensures { MultisPrintMoments }
+{}
+
+/// What `compile` takes for its input is what the lines of the input spell: a valid pay table that has the bet, then a pool
+/// of rules for it, and nothing else. Every other input is refused, exactly at its refused line.
+pub fn compile_inputs_are_read()
+    ensures { CompileInputsAreRead }
+{}
+
+/// The answer of `compile` to each pay table and pool that it takes is a list with the numbers that are said of it. The
+/// last of them is what the list loses, and it is at most the target; the rules stand in an order in which no exchange of
+/// two neighbours lowers what the list of the rules loses; and with exceptions for fewer classes, whatever holds they give,
+/// the list of the rules in this order loses more than the target.
+pub fn compiled_lists_lose_little()
+    ensures { CompiledListsLoseLittle }
+{}
+
+/// What `compile` prints, behind its pay table, is an input of `audit`, short enough to be read, that says the table and
+/// the list that is printed: the loss that `audit` answers is the one that is printed.
+pub fn compiled_lists_are_audited()
+    ensures { CompiledListsAreAudited }
 {}

@@ -3,10 +3,12 @@
 mod audit;
 mod certify;
 mod check;
+mod compile;
 mod deal;
 mod faults;
 mod meter;
 mod multi;
+mod play;
 mod replay;
 mod tables;
 mod words;

@@ -9,7 +9,7 @@ use vp_pay::samples::JACKS;
 
 #[test]
 fn words_that_are_no_command_read_nothing(rt: HostRuntime) {
-    let cases: [&[&str]; 25] = [
+    let cases: [&[&str]; 29] = [
         &[],
         &["certify", "0"],
         &["certify", "6"],
@@ -34,6 +34,10 @@ fn words_that_are_no_command_read_nothing(rt: HostRuntime) {
         &["meter", "1", "royal", "0", "500001"],
         &["meter", "1", "royal", "0"],
         &["meter", "1", "royal", "0", "1", "1"],
+        &["compile", "1"],
+        &["compile", "6", "0"],
+        &["compile", "1", "1000001"],
+        &["compile", "1", "0", "0"],
         &["tables", "1"],
     ];
     for words in cases {

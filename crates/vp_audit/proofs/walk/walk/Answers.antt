@@ -1,12 +1,11 @@
 -- Each class is added behind those before it.
-use Rattle.std.proofs.Common.{List, arith, ap, sym, subst, ◌∙◌, length}
+use Rattle.std.proofs.Common.{List, arith, ap, subst, ◌∙◌, length}
 use Rattle.vp_rule.specs.declared.rule.Rule.{Rule}
 use Rattle.vp_pay.specs.declared.table.PayTable.{PayTable}
 use Rattle.vp_suit.specs.Classes.{representatives}
-use Rattle.vp_audit.specs.Sums.{HasRoom}
 use Rattle.vp_audit.specs.declared.priced.Decided.{Decided}
 use Rattle.vp_audit.proofs.Bounds.{ambiguous_small, has_room, optimum_small}
-use Rattle.vp_audit.proofs.SoFar.{decided_in, end, next, next_by, next_hand, next_le, next_mask, priced_at}
+use Rattle.vp_audit.proofs.SoFar.{decided_in, end, next, next_by, next_deal, next_le, next_mask, priced_at}
 use Rattle.vp_audit.proofs.SumsMore.{InList}
 use Rattle.vp_audit.proofs.Start.{start}
 use Rattle.vp_audit.proofs.walk.walk.Goals as goal
@@ -21,8 +20,8 @@ loop-class-init g c = record {
 
 pub of-choices-requires : goal.of-choices-requires
 of-choices-requires g c = record {
-  cards =
-      next_hand c.args.game.now.table c.args.game.now.coin c.args.list.now c.table.ensures.rules.known_deck.0
+  deal =
+      next_deal c.args.game.now.table c.args.game.now.coin c.args.list.now c.table.ensures.rules.known_deck.0
       c.in-Some.class.hand _ _ _ _ _ _ _ c.in-Some.ensures.given c.loop-class.invariant.so_far;
 }
 

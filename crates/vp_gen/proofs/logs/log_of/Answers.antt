@@ -10,7 +10,7 @@ use Rattle.vp_gen.proofs.logs.log_of.Goals as goal
 
 pub returns-clause-text : goal.returns-clause-text
 returns-clause-text g c =
-    let start : c.from.result * c.from-2.result ≡ c.args.game.now.coin * c.args.games = rw (c.from.ensures, c.from-2.ensures, c.coin.ensures.coin) refl in
+    let start : c.from.result * c.from-2.result ≡ c.args.game.now.coin * c.args.games = rw (c.from.ensures, c.from-2.ensures, c.coin-coin.ensures.coin) refl in
     let first : c.push_start.new.text.items ≡ [] ++ line_of (key_number (codes "log") (c.args.game.now.coin * c.args.games)) =
     c.in_ok-push_start.ensures ∙ rw (start, c.new-text.ensures.items) refl in
     let games = c.args.game.now in
@@ -20,6 +20,6 @@ returns-clause-text g c =
 
 pub returns-clause-fits : goal.returns-clause-fits
 returns-clause-fits g c =
-    let bet : IsBet c.args.game.now.table c.args.game.now.coin = record { rules = c.table-table.ensures.rules; some = c.coin.ensures.coin_from; within = c.coin.ensures.coin_to } in
+    let bet : IsBet c.args.game.now.table c.args.game.now.coin = record { rules = c.table-table.ensures.rules; some = c.coin-coin.ensures.coin_from; within = c.coin-coin.ensures.coin_to } in
     let is = accepted c.args.game.now.table c.args.game.now.coin c.args.seed c.args.games bet c.requires.most in
     omega (arith, ap {B = ℕ} length (returns-clause-text g c), is.fits)

@@ -1,4 +1,4 @@
-use Rattle.std.proofs.Common.{arith}
+use Rattle.std.proofs.Common.{◌∙◌, arith}
 use Rattle.vp_gen.proofs.Lines.{funds_left, last_game, next_game}
 use Rattle.vp_gen.proofs.logs.push_games.Goals as goal
 
@@ -10,6 +10,7 @@ games-preserved g c =
       so_far = next_game _ _ _ _ _ _ _ c.games.text.items c.append.new.text.items _ c.games-test.true made.made i.so_far c.in_ok-append.ensures.line;
       funds = funds_left _ _ _ _ c.games-test.true i.funds made.least;
       small = omega (arith, i.small, made.most, c.games-test.true);
+      payments = made.same ∙ i.payments;
     }
 
 pub returns : goal.returns

@@ -10,6 +10,7 @@ invariant-games g l = record {
       ≡ l.fn.text.items ++ written (map event_words (games_from l.game.table l.game.coin l.fn.credits l.fn.state l.fn.games));
   funds : l.game.coin * l.left ≤ l.credits;
   small : l.credits + 500000 * l.left ≤ 50000500000;
+  payments : l.payments ≡ l.game;
 }
 
 abbrev pub decreases-games : goal.decreases-games

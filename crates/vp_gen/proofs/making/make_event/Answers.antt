@@ -1,6 +1,7 @@
 use Rattle.std.proofs.Common.{◌≡◌, ◌-◌, ◌++◌, ◌∙◌, ap, sym, subst, length, List, ℕ, arith}
 use Rattle.vp_card.specs.Cards.{held, in_deck, in_order}
 use Rattle.vp_pay.specs.Table.{IsTable}
+use Rattle.vp_wild.specs.Kept.{Bet}
 use Rattle.vp_wild.specs.Payment.{pay}
 use Rattle.vp_draws.proofs.Payments.{pay_le}
 use Rattle.vp_sets.proofs.Decks.{length-deck}
@@ -54,14 +55,13 @@ returns-clause-made g c =
     let first = ap (drawn 5 c.args.state.now) (sym whole) ∙ c.deal-deal.ensures in
     let chosen = ap (λ (h : List ℕ). masked c.args.game.now.table c.args.game.now.coin h c.deal-deal.new.state) (sym hand) ∙ c.mask_of.ensures in
     let pays : c.from-pay.result ≡ pay c.args.game.now.table c.args.game.now.coin (in_order (c.held-hold.result.items ++ c.draw-draw.result.items)) =
-    c.from-pay.ensures ∙ rw (c.table-table.ensures.table, c.coin-coin.ensures.coin, c.final_hand.ensures, c.deref.ensures.0, c.deref-2.ensures.0) at c.pay-pay.ensures.payment in
+    c.from-pay.ensures ∙ rw (c.requires.payments, c.final_hand.ensures, c.deref.ensures.0, c.deref-2.ensures.0) at c.payment-pay.ensures.payment in
     let bet : c.from-bet.result ≡ c.args.game.now.coin = c.from-bet.ensures ∙ c.coin-coin.ensures.coin in
     rw bet (made_from c.args.game.now.table c.args.game.now.coin c.args.credits c.args.state.now c.deal-deal.new.state c.mask_of.result c.mask_of.new.state c.draw-draw.new.state c.from-pay.result
     c.deal-deal.result c.deal-deal.new.rest.items c.held-hold.result.items c.draw-draw.result.items c.draw-draw.new.rest.items first chosen hold drew pays)
 
 pub returns-clause-most : goal.returns-clause-most
 returns-clause-most g c =
-    let table = c.table-table.ensures.table in
-    let rules = subst IsTable (sym table) c.table-table.ensures.rules in
-    let most = pay_le c.table-table.result.now c.coin-coin.result c.final_hand.result rules in
-    omega (arith, most, c.from-pay.ensures, c.pay-pay.ensures.payment)
+    let rules = subst (λ (bet : Bet). IsTable bet.table) (sym c.requires.payments) c.table-table.ensures.rules in
+    let most = pay_le c.args.payments.now.table c.args.payments.now.coin c.final_hand.result rules in
+    omega (arith, most, c.from-pay.ensures, c.payment-pay.ensures.payment)

@@ -1,7 +1,5 @@
-use Rattle.std.proofs.Common.{◌≡◌, ◌∙◌, ◌+◌, ℕ, ap, sym, subst, arith, rules}
+use Rattle.std.proofs.Common.{◌+◌, ℕ, sym, subst, arith, rules}
 use Rattle.vp_draws.specs.Draws.{value}
-use Rattle.vp_rule.specs.Holds.{matches}
-use Rattle.vp_audit.specs.Choices.{BetHand}
 use Rattle.vp_audit.proofs.Extremes.{ExtremesOf, extremes_all, extremes_more, no_extremes}
 use Rattle.vp_audit.proofs.choices.Choices.extremes.Goals as goal
 
@@ -11,8 +9,7 @@ loop-mask-init c = no_extremes _ _ _ _
 pub loop-mask-preserved : goal.loop-mask-preserved
 loop-mask-preserved c =
     let s = c.args.self.now in
-    let told = c.is_matched-counts.ensures ∙ ap (λ (x : BetHand). matches x.table c.args.rule.now x.hand c.loop-mask.mask) c.self.view_is in
-    let more = extremes_more s.table c.args.rule.now s.hand (value s.table s.coin s.hand) c.loop-mask.mask c.loop-mask.extremes _ _ told c.value.ensures (search rules) c.loop-mask.invariant in
+    let more = extremes_more s.table c.args.rule.now s.hand (value s.table s.coin s.hand) c.loop-mask.mask c.loop-mask.extremes _ _ c.is_matched-counts.ensures c.value.ensures (search rules) c.loop-mask.invariant in
     subst (λ (e : ℕ × ℕ). ExtremesOf s.table c.args.rule.now s.hand (value s.table s.coin s.hand) (c.loop-mask.mask + 1) e) (sym c.widened-extremes.ensures) more
 
 pub returns-clause-least : goal.returns-clause-least

@@ -7,5 +7,5 @@ use Rattle.vp_audit.proofs.choices.Choices.value.Goals as goal
 pub returns : goal.returns
 returns c =
     let i = c.self.inside in
-    value_at (value i.holds.table i.coin i.holds.hand) i.values c.args.mask c.self.invariant c.requires
+    value_at (value i.holds.table i.coin i.holds.hand) i.values c.args.mask c.self.invariant.valued c.requires
     ∙ ap (λ (x : BetHand). value x.table x.coin x.hand c.args.mask) c.self.view_is

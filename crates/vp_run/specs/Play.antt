@@ -1,0 +1,46 @@
+-- `play`: what its input says, and what it prints.
+use Rattle.std.specs.Prelude.{ℕ, ◌≤◌, List, [], ◌∷◌, Result, codes}
+use Rattle.std.specs.Fmt.{decimal}
+use Rattle.vp_text.specs.Sections.{Text}
+use Rattle.vp_pay.specs.Bets.{IsBet}
+use Rattle.vp_pay.specs.declared.table.PayTable.{PayTable}
+use Rattle.vp_loggram.specs.Logs.{LogValue}
+use Rattle.vp_replay.specs.Summaries.{summary_lines, summary_of}
+use Rattle.vp_replay.specs.declared.summary.Summary.{Summary}
+use Rattle.vp_gen.specs.Generator.{generated}
+use Rattle.vp_answer.specs.Inputs.{AreRead, RefusesTable, SpellsTable, table_input}
+use Rattle.vp_run.specs.Deal.{has_bet}
+
+-- what an input of `play` says: a pay table that has the bet, and nothing else; or the line where it is refused
+abbrev pub play_input : ℕ → List ℕ → Result (PayTable × Unit {0}) ℕ
+play_input coin bytes = table_input (has_bet coin) bytes
+
+-- a bet on a pay table, the seed of a log, and how many games it has
+pub record Played : Type 0 where
+  pub table : PayTable
+  pub coin : ℕ
+  pub seed : ℕ
+  pub games : ℕ
+
+-- the pay table has the bet, and there are 1 to 100000 games
+pub record IsPlayed (p : Played) : Type 0 where
+  pub bet : IsBet p.table p.coin
+  pub some : 1 ≤ p.games
+  pub most : p.games ≤ 100000
+
+-- the log that is made
+abbrev pub log_of : Played → LogValue
+log_of p = generated p.table p.coin p.seed p.games
+
+-- a seed and a number of games, and the lines of the numbers of a log with cards of a deck of n, which `replay` prints behind those of
+-- the costs
+abbrev pub played_lines : ℕ → ℕ → ℕ → Summary → Text
+played_lines n seed games s = (codes "play" ∷ decimal seed ∷ decimal games ∷ []) ∷ summary_lines n s
+
+-- what `play` prints
+abbrev pub play_lines : Played → Text
+play_lines p = played_lines p.table.deck p.seed p.games (summary_of p.table (log_of p))
+
+-- a pay table that has the bet
+abbrev pub PlayInputsAreRead : Type 0
+PlayInputsAreRead = (coin : ℕ) → AreRead (play_input coin) (SpellsTable (has_bet coin)) (RefusesTable (has_bet coin))
