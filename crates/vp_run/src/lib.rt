@@ -28,7 +28,7 @@ pub use laws::{
     multis_print_moments, play_inputs_are_read, plays_are_replayed, replay_inputs_are_read,
     replays_tell_costs, usage_is_for_no_command,
 };
-pub use serve::{region_words, served};
+pub use serve::{in_region, region_words, served};
 pub use top::{vpoker, vpoker_in_blocks};
 pub use vp_answer::Status;
 

@@ -61,7 +61,8 @@ impl PlayJob {
         }
     }
 
-    /// How many words of 64 bits it needs: a table of sums for each bet, and one to make the log by.
+    /// How many words of 64 bits it needs: as many as a table of sums for each bet, and one more. The table of its bet is
+    /// the one that is made in them.
     #[tactic(auto, using(crate::proofs::ReplayWords::few_words))]
     pub(crate) fn words(&self) -> usize
         ensures { result ≡ (self.now.table.coins + 1) * first_word self.now.table.deck 6 }

@@ -3,12 +3,13 @@
 ghost use Rattle.std.specs.Prelude.{◌≡◌, ◌≤◌, length, map, true};
 ghost use Rattle.vp_io.specs.Puts.{Puts};
 ghost use Rattle.vp_run.specs.Answer.{answer};
-ghost use Rattle.vp_run.specs.Memory.{in_region, region_words};
+ghost use Rattle.vp_answer.specs.Asking.{alone_read};
+ghost use Rattle.vp_run.specs.Memory.{in_region, job_alone, region_words};
 
 use crate::command::{Command, command_of};
-use crate::job::job_of;
+use crate::job::{Job, job_of};
 use crate::tables::put_tables;
-use vp_answer::{put_read, words_of_read};
+use vp_answer::{Stop, put_read, words_of_read};
 use vp_io::{Sink, WriteFault, put};
 use vp_region::Region;
 
@@ -25,6 +26,26 @@ pub fn region_words(words: &[&str], bytes: &[u8]) -> usize
         None | Some(Command::Tables) => 0,
         Some(Command::Over(task)) => words_of_read(&job_of(task, bytes)),
     }
+}
+
+/// Whether these words are all the memory that the answer needs beside its input: `served` serves it then. An answer of
+/// `play` or `compile` needs more.
+#[tactic(auto, unfolding(crate::specs::Memory::in_region))]
+pub fn in_region(words: &[&str], bytes: &[u8]) -> bool
+    requires { length bytes.now ≤ 67108864 }
+    ensures { result ≡ in_region (map (λ w. w.now) words.now) bytes.now }
+{
+    match command_of(words) {
+        None | Some(Command::Tables) => true,
+        Some(Command::Over(task)) => is_alone(&job_of(task, bytes)),
+    }
+}
+
+/// Whether what was read needs no memory beside its words.
+fn is_alone(read: &Result<Job<'_>, Stop>) -> bool
+    ensures { result ≡ alone_read job_alone read.now }
+{
+    !matches!(read, Ok(Job::Play(_) | Job::Compile(_)))
 }
 
 /// Writes the text of the answer to the words and the input, in the memory of the region. It asks for no more: the only

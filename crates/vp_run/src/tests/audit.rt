@@ -1,9 +1,13 @@
 //! `audit` over inputs in memory.
 
-use crate::Status;
-use crate::tests::tables::{answered, joined};
+ghost use Rattle.std.specs.Prelude.{◌≤◌, length};
+
+use crate::tests::tables::{ROOM, answered, joined};
+use crate::{Status, region_words};
+use std::alloc::{AllocError, Global};
 use std::test::*;
-use vp_pay::samples::{JACKS, ONE_JOKER, ZERO};
+use vp_pay::samples::{JACKS, KINGS, ONE_JOKER, ZERO};
+use vp_text::Lines;
 
 #[test]
 fn lists_that_are_priced(rt: HostRuntime) -> Result<(), Fail> {
@@ -121,6 +125,82 @@ fn lists_that_are_refused(rt: HostRuntime) -> Result<(), Fail> {
         let (status, taken) = answered(rt.alloc(), &["audit", coin], &input, 512)?;
         assert_eq!(rt; status, Status::Refused);
         assert_eq!(rt; taken.as_slice(), text);
+    }
+    Ok(())
+}
+
+/// A list with an exception for each class line of a certificate: its cards and its mask.
+fn exceptions_of(alloc: Global, certificate: &[u8]) -> Result<Vec<u8>, AllocError>
+    requires { length certificate.now ≤ 67108864 }
+{
+    let mut list = joined(alloc, b"list\n", b"")?;
+    let mut lines = Lines::new(certificate);
+    for _ in 0..200_000u32 {
+        let Some(mut words) = lines.next() else {
+            break;
+        };
+        if !words.next_is(b"class") {
+            continue;
+        }
+        let _ = words.next();
+        list.extend_from_slice(b"except")?;
+        for place in 0..7u8 {
+            if let Some(word) = words.next()
+                && place != 5
+            {
+                list.extend_from_slice(b" ")?;
+                list.extend_from_slice(word)?;
+            }
+        }
+        list.extend_from_slice(b"\n")?;
+    }
+    list.extend_from_slice(b"end\n")?;
+    Ok(list)
+}
+
+// The words of a table of sums for a deck of 53 cards: 1 + 53 + 1378 + 23426 + 292825 + 2869685 sets.
+const ONE_TABLE: usize = 3_187_368;
+
+// Each exception is the best hold that the certificate has for its class, so the list loses nothing. However many there are, no
+// memory is taken for them.
+#[test]
+fn exceptions_for_all_classes(rt: HostRuntime) -> Result<(), Fail> {
+    let cases: [(&[u8], &[u8]); 2] = [
+        (
+            ONE_JOKER,
+            b"optimum 4635635004000 / 24568865521200
+least 4635635004000 / 24568865521200
+greatest 4635635004000 / 24568865521200
+loss 0 / 24568865521200
+ambiguous 0
+except 2869685 0
+none 0 0
+",
+        ),
+        (
+            KINGS,
+            b"optimum 24727653272220 / 24568865521200
+least 24727653272220 / 24568865521200
+greatest 24727653272220 / 24568865521200
+loss 0 / 24568865521200
+ambiguous 0
+except 2869685 0
+none 0 0
+",
+        ),
+    ];
+    for (table, due) in cases {
+        let (_, certificate) = answered(rt.alloc(), &["certify", "1"], table, ROOM)?;
+        assert!(rt; certificate.len() <= ROOM);
+        let list = exceptions_of(rt.alloc(), &certificate)?;
+        let lines = list.iter().filter(|byte| **byte == b'\n').count();
+        assert_eq!(rt; lines, 150_893);
+        let input = joined(rt.alloc(), table, &list)?;
+        assert!(rt; input.len() <= ROOM);
+        assert_eq!(rt; region_words(&["audit", "1"], &input), ONE_TABLE);
+        let (status, taken) = answered(rt.alloc(), &["audit", "1"], &input, 512)?;
+        assert_eq!(rt; status, Status::Done);
+        assert_eq!(rt; taken.as_slice(), due);
     }
     Ok(())
 }

@@ -1,7 +1,7 @@
 //! `deal` over sources and sinks in memory.
 
 use crate::tests::tables::{answered, built_in_deal, joined};
-use crate::{Status, region_words, served};
+use crate::{Status, in_region, region_words, served};
 use std::test::*;
 use vp_io::MemSink;
 use vp_pay::samples::{
@@ -205,6 +205,7 @@ fn served_in_an_open_region(rt: HostRuntime) -> Result<(), Fail> {
     for (words, due) in cases {
         assert_eq!(rt; region_words(words, &input), due);
     }
+    assert!(rt; in_region(&["deal", "1"], &input));
     let mut region = Region::open(rt.alloc(), region_words(&["deal", "1"], &input))?;
     let mut room = [0; 512];
     let mut sink = MemSink::new(&mut room, 512, &[]);
