@@ -1,0 +1,4 @@
+pub mod Field_cards
+pub mod Fuel
+pub mod Rows
+pub mod Stepping
