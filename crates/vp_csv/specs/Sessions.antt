@@ -13,7 +13,7 @@ pub record Session : Type 0 where
 
 -- the records of a session
 abbrev pub own : Word → List Record → List Record
-own name rs = filter (λ r. bytes_eq (name_of r) name) rs
+own name rs = filter (λ r. bytes_eq name (name_of r)) rs
 
 abbrev pub or_zero : Option ℕ → ℕ
 or_zero None = 0

@@ -17,9 +17,14 @@ use std::alloc::{AllocError, Global};
 use vp_pay::Name;
 
 /// Keeps a record of a session that is known, and tells whether it is a game.
-fn take_game(sessions: &mut [Kept], name: &Name, row: &Row, deck: u8) -> Result<bool, AllocError>
+fn take_game(
+    sessions: &mut Vec<Kept>,
+    name: &Name,
+    row: &Row,
+    deck: u8,
+) -> Result<bool, AllocError>
     ensures game { IfOk result (λ kept. kept ≡ is_some (game_in deck row.now)) }
-    ensures keeps { IfOk result (λ kept. kept ≡ true → sessions.new ≡ map (with_text name.now (game_line (game_in deck row.now))) sessions.old) }
+    ensures keeps { IfOk result (λ kept. kept ≡ true → sessions.new.items ≡ map (with_text name.now (game_line (game_in deck row.now))) sessions.old.items) }
 {
     let Some(event) = row.game(deck) else {
         return Ok(false);
