@@ -1,6 +1,6 @@
 -- The cards of a field are read from their texts, with one space between, and from nothing else.
 use Rattle.std.proofs.Common.{◌≡◌, ◌≢◌, ℕ, ◌+◌, ◌<◌, ◌≤◌, Bool, true, false, cond, List, [], ◌∷◌, ◌++◌, map, length, get_or, drop, refl, sym, ap, ◌∙◌, arith, Some, None, append_assoc, length-append}
-use Rattle.std.proofs.lemmas.Bool.{lt-ltb}
+use Rattle.std.proofs.lemmas.Bool.{lt-ltb, ltb-true}
 use Rattle.std.specs.Prelude.{Option, ◌==◌, ◌&&◌, nat_lt}
 use Rattle.std.specs.List.{AllByRecursion}
 use Rattle.std.proofs.lemmas.Bool.Decides.{nat_tests}
@@ -114,3 +114,22 @@ unfolding cards_of more_cards
 one_byte [] some few = absurd (some refl)
 one_byte (a ∷ []) some few = refl
 one_byte (a ∷ b ∷ rest) some few = absurd (omega arith)
+
+-- at most five cards are read
+few_more : (cards text values : List ℕ) → length cards ≤ 5 → more_cards cards text ≡ Some values → length values ≤ 5
+unfolding more_cards
+few_more cards [] values few e = let same : cards ≡ values = same_value cards values e in rw (← same) few
+few_more cards (a ∷ []) values few e = absurd (no_value _ e)
+few_more cards (a ∷ b ∷ []) values few e = absurd (no_value _ e)
+few_more cards (s ∷ a ∷ b ∷ rest) values few e =
+    chosen (λ values. length values ≤ 5) (s == 32 && nat_lt (length cards) 5) _ None values e
+      (λ both h.
+        let room = ltb-true (length cards) 5 (both_true (s == 32) (nat_lt (length cards) 5) both).1 in
+        let c = bound (card_of (a ∷ b ∷ [])) _ _ h in
+        few_more (cards ++ c.value ∷ []) rest values (omega (arith, length-append cards (c.value ∷ []))) c.then)
+      (λ none. absurd (no_value _ none))
+
+pub field_few : (text values : List ℕ) → cards_of text ≡ Some values → length values ≤ 5
+unfolding cards_of
+field_few [] values e = let same : [] ≡ values = same_value [] values e in rw (← same) (omega arith)
+field_few (a ∷ text) values e = few_more [] (32 ∷ a ∷ text) values (omega arith) e

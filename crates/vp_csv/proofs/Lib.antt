@@ -1,8 +1,13 @@
+pub mod Closing
+pub mod Counts
 pub mod Field_cards
 pub mod Fuel
+pub mod Isolation
 pub mod Names
 pub mod OneMore
+pub mod RecordLaws
 pub mod RowRules
 pub mod Rows
+pub mod Sizes
 pub mod SoFar
 pub mod Stepping

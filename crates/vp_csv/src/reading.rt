@@ -2,14 +2,14 @@
 
 ghost use Rattle.std.specs.Prelude.{◌≡◌, ◌<◌, ◌++◌, ◌∷◌, ◌&&◌, [], true, None, Some, IfOk, IfErr, OnOk, is_some, length, map, nat_lt};
 ghost use Rattle.csv.specs.Records.{fields_of};
-ghost use Rattle.vp_csv.specs.Kept.{game_line, kept_in, names_kept, opened, updated, with_text};
+ghost use Rattle.vp_csv.specs.Kept.{closed, game_line, kept_in, names_kept, opened, updated, with_text};
 ghost use Rattle.vp_csv.specs.Kept.{IsBehindHeader, IsRefusedHeader};
 ghost use Rattle.vp_csv.specs.Records.{records_in};
 ghost use Rattle.vp_csv.specs.Rules.{IsStop, break_behind, first_break, game_in, is_header, keeps_rule, start_in};
 ghost use Rattle.vp_csv.specs.Sessions.{behind_first};
 
 use crate::CsvStop;
-use crate::kept::{Kept, append, is_kept};
+use crate::kept::{Kept, append, close_all, is_kept};
 use crate::records::Records;
 use crate::row::{Row, is_header, row_of};
 use csv::ByteRecord;
@@ -134,4 +134,11 @@ pub(crate) fn read_kept(alloc: Global, bytes: &[u8], deck: u8) -> Result<Vec<Kep
     let mut fields = ByteRecord::new(alloc);
     take_header(&mut records, &mut fields)?;
     read_behind(alloc, &mut records, &mut fields, deck)
+}
+
+/// Ends the logs.
+pub(crate) fn close(sessions: &mut Vec<Kept>) -> Result<(), AllocError>
+    ensures { OnOk result (sessions.new.items ≡ map closed sessions.old.items) }
+{
+    close_all(sessions)
 }

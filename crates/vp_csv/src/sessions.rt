@@ -10,8 +10,8 @@ ghost use Rattle.vp_csv.specs.Rules.{IsStop, refused_record};
 ghost use Rattle.vp_csv.specs.Sessions.{session_at, sessions_of};
 
 use crate::CsvStop;
-use crate::kept::{Kept, close_all};
-use crate::reading::read_kept;
+use crate::kept::Kept;
+use crate::reading::{close, read_kept};
 use std::alloc::Global;
 use std::marker::Model;
 use vp_pay::Name;
@@ -41,6 +41,7 @@ impl Sessions {
     /// record before has opens a session: its last field is the number of credits at the start, 0 to 1000000000000, and
     /// the fields between are empty. Each other one is a game, its cards being written with one space between. There are
     /// at most 400000 records behind the first, of at most 1000 sessions.
+    #[tactic(auto, unfolding(crate::specs::Rules::refused_record, crate::specs::Sessions::sessions_of))]
     pub fn read(alloc: Global, bytes: &[u8], deck: u8) -> Result<Sessions, CsvStop>
         requires { IsDeck deck }
         // Where sessions are read, each record keeps its rule, and they are the sessions of the records.
@@ -50,9 +51,9 @@ impl Sessions {
         ensures refused { IfErr result (λ e. IsStop e (refused_record deck bytes.now)) }
     {
         let mut kept = read_kept(alloc, bytes, deck)?;
-        if close_all(&mut kept).is_err() {
+        let Ok(()) = close(&mut kept) else {
             return Err(CsvStop::NoMemory);
-        }
+        };
         Ok(Sessions { kept, deck })
     }
 
