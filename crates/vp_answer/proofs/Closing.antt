@@ -1,5 +1,5 @@
 -- An answer that was held back ends over the sink below as over the blocks.
-use Rattle.std.proofs.Common.{◌≡◌, ◌⊎◌, inl, inr, ℕ, ◌+◌, ◌<◌, ◌≤◌, List, [], ◌∷◌, ◌++◌, length, take, refl, sym, ap, ◌∙◌, subst, arith, append-nil, length-append, Option, Some, None, Result, Ok, Err}
+use Rattle.std.proofs.Common.{◌≡◌, ◌⊎◌, inl, inr, ℕ, ◌+◌, ◌<◌, ◌≤◌, List, [], ◌∷◌, ◌++◌, length, take, refl, sym, ap, ◌∙◌, subst, arith, append-nil, length-append, Option, Some, None}
 use Rattle.std.proofs.lemmas.List.{take-append-le, take-take, take_all, length-take}
 use Rattle.std.specs.Io.KnownBytes.{Appends, Keeps, append_known}
 use Rattle.std.proofs.Math.Seq.{take-append-add}
@@ -8,7 +8,7 @@ use Rattle.vp_io.specs.Causes.{Rose}
 use Rattle.vp_io.specs.Streams.{Told, TookPart}
 use Rattle.vp_answer.specs.Answers.{Answer}
 use Rattle.vp_answer.specs.Closing.{Closed, ClosedOff, ClosedShort, ClosedWell, TookNothing}
-use Rattle.vp_answer.specs.Outcome.{Answered, CutOff, Silent, Outcome, Unread, ReadWhole}
+use Rattle.vp_answer.specs.Outcome.{Answered, CutOff, Silent, Outcome, Unread}
 use Rattle.vp_answer.specs.declared.status.Status.{Status}
 use Rattle.vp_answer.specs.declared.status.Status.TheVariants.{Done, Finding, Usage, Refused, ReadFault, WriteFault, NoMemory, TooLong}
 

@@ -8,7 +8,7 @@ use Rattle.vp_answer.specs.declared.rule.Rule.TheVariants.{Order, Weight, Value,
 use Rattle.vp_answer.specs.declared.status.Status.{Status}
 use Rattle.vp_answer.specs.declared.status.Status.TheVariants.{Done, Finding, Refused}
 use Rattle.vp_answer.specs.declared.stop.Stop.{Stop}
-use Rattle.vp_answer.specs.declared.stop.Stop.TheVariants.{Finding as Found, Refused as Refusal}
+use Rattle.vp_answer.specs.declared.stop.Stop.TheVariants.{Finding as Found, Record as RecordRefusal, Refused as Refusal}
 
 -- a status and a text
 pub record Answer : Type 0 where
@@ -22,6 +22,10 @@ done text = record { status = Done; text = text }
 -- the answer to an input that is refused at a line
 abbrev pub refusal : ℕ → Answer
 refusal line = record { status = Refused; text = line_of (codes "refused" ∷ decimal line ∷ []) }
+
+-- the answer to an input that is refused at a record of its CSV text
+abbrev pub record_refusal : ℕ → Answer
+record_refusal place = record { status = Refused; text = line_of (codes "refused" ∷ codes "record" ∷ decimal place ∷ []) }
 
 -- the word of a rule
 abbrev pub rule_word : Rule → Word
@@ -52,12 +56,13 @@ finding at rule said due = record { status = Finding; text = line_of (finding_wo
 -- the answer where an input is stopped at
 abbrev pub stop_answer : Stop → Answer
 stop_answer (Refusal line) = refusal line
+stop_answer (RecordRefusal place) = record_refusal place
 stop_answer (Found at rule said due) = finding at rule said due
 
--- the answer to what was read: the text of the work that is left, or the line where the input is stopped at
-abbrev pub answer_read : {W : Type 0} → (W → List ℕ) → Result W Stop → Answer
-answer_read text (Ok work) = done (text work)
-answer_read text (Err stop) = stop_answer stop
+-- the answer to what was read: that of the work that is left, or the line where the input is stopped at
+abbrev pub answer_read : {W : Type 0} → (W → Answer) → Result W Stop → Answer
+answer_read answer (Ok work) = answer work
+answer_read answer (Err stop) = stop_answer stop
 
 -- how many words of 64 bits that takes; an input that is stopped at takes none
 abbrev pub words_read : {W : Type 0} → (W → ℕ) → Result W Stop → ℕ

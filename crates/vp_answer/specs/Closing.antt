@@ -5,7 +5,7 @@ use Rattle.vp_io.specs.Blocks.{HoldsBack}
 use Rattle.vp_io.specs.Causes.{Rose}
 use Rattle.vp_io.specs.Streams.{Told, TookPart}
 use Rattle.vp_answer.specs.declared.status.Status.{Status}
-use Rattle.vp_answer.specs.declared.status.Status.TheVariants.{Done, Finding, Usage, Refused, ReadFault, WriteFault, NoMemory, TooLong}
+use Rattle.vp_answer.specs.declared.status.Status.TheVariants.{ReadFault, WriteFault, NoMemory, TooLong}
 
 -- a sink that tells what it took has taken nothing
 abbrev pub TookNothing : Option (List ℕ) → Type 0

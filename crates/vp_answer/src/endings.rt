@@ -1,12 +1,12 @@
 //! How the answer to an input that was read ends.
 
-ghost use Rattle.std.specs.Prelude.{◌≡◌, ◌≤◌, true, false};
+ghost use Rattle.std.specs.Prelude.{◌≡◌, ◌≤◌, true};
 ghost use Rattle.vp_io.specs.Puts.{Puts};
-ghost use Rattle.vp_answer.specs.Answers.{answer_read, done, stop_answer, words_read};
+ghost use Rattle.vp_answer.specs.Answers.{answer_read, stop_answer, words_read};
 ghost use Rattle.vp_answer.specs.Asking.{TakesMemory, alone_read};
 ghost use Rattle.vp_answer.specs.Outcome.{Served};
 
-use crate::{PutStop, Status, Stop, Work};
+use crate::{Status, Stop, Work};
 use std::alloc::Global;
 use vp_io::{Sink, WriteFault};
 use vp_region::Region;
@@ -29,7 +29,7 @@ pub fn put_read<W: Work, K: Sink>(
 ) -> Result<(), WriteFault>
     requires room { words_read W.room read.now ≤ region.old }
     requires alone { alone_read W.alone read.now ≡ true }
-    ensures puts { Puts (K.told sink.old) (K.told sink.new) result (answer_read W.text read.now).text }
+    ensures puts { Puts (K.told sink.old) (K.told sink.new) result (answer_read W.answer read.now).text }
     ensures same { region.new ≡ region.old }
 {
     match read {
@@ -40,7 +40,7 @@ pub fn put_read<W: Work, K: Sink>(
 
 /// Writes the answer to what was read. The memory that it takes is taken before anything is written.
 pub fn write_read<W: Work, K: Sink>(alloc: Global, read: &Result<W, Stop>, sink: &mut K) -> Status
-    ensures served { Served (answer_read W.text read.now) (K.told sink.old) (K.told sink.new) result }
+    ensures served { Served (answer_read W.answer read.now) (K.told sink.old) (K.told sink.new) result }
     // Want of memory is no answer where none is asked for.
     ensures memory { result ≡ Status.NoMemory → TakesMemory (words_read W.room read.now) (alone_read W.alone read.now) }
 {
@@ -63,33 +63,15 @@ fn write_stop<K: Sink>(stop: Stop, sink: &mut K) -> Status
 
 /// Opens the region that a work takes, and writes its text.
 fn write_work<W: Work, K: Sink>(alloc: Global, work: &W, sink: &mut K) -> Status
-    ensures served { Served (done (W.text work.now)) (K.told sink.old) (K.told sink.new) result }
+    ensures served { Served (W.answer work.now) (K.told sink.old) (K.told sink.new) result }
     ensures memory { result ≡ Status.NoMemory → TakesMemory (W.room work.now) (W.alone work.now) }
 {
     let words = work.words();
     if words == 0 {
-        return write_text(alloc, work, &mut Region::none(alloc), sink);
+        return work.write(alloc, &mut Region::none(alloc), sink);
     }
     match Region::open(alloc, words) {
-        Ok(mut region) => write_text(alloc, work, &mut region, sink),
+        Ok(mut region) => work.write(alloc, &mut region, sink),
         Err(_) => Status::NoMemory,
-    }
-}
-
-/// Writes the text of a work over the region.
-fn write_text<W: Work, K: Sink>(
-    alloc: Global,
-    work: &W,
-    region: &mut Region,
-    sink: &mut K,
-) -> Status
-    requires { W.room work.now ≤ region.old }
-    ensures served { Served (done (W.text work.now)) (K.told sink.old) (K.told sink.new) result }
-    ensures memory { result ≡ Status.NoMemory → W.alone work.now ≡ false }
-{
-    match work.put_asking(alloc, region, sink) {
-        Ok(()) => Status::Done,
-        Err(PutStop::WriteFault) => Status::WriteFault,
-        Err(PutStop::NoMemory) => Status::NoMemory,
     }
 }

@@ -16,4 +16,4 @@ pub use laws::{hands_are_read, served_without_fault, tables_are_read};
 pub use rule::Rule;
 pub use status::Status;
 pub use stop::Stop;
-pub use work::{PutStop, Work};
+pub use work::Work;

@@ -13,7 +13,7 @@ use Rattle.vp_run.specs.Commands.{AreInRange, CommandsAreSpelled, InRange, alone
 use Rattle.vp_run.specs.declared.command.Command.{Command}
 use Rattle.vp_run.specs.declared.command.Command.TheVariants.{Over, Tables}
 use Rattle.vp_run.specs.declared.command.Task.{Task}
-use Rattle.vp_run.specs.declared.command.Task.TheVariants.{Certify, Check, Deal, Replay, Meter, Audit, Multi, Play, Compile}
+use Rattle.vp_run.specs.declared.command.Task.TheVariants.{Certify, Check, Deal, Replay, Sessions, Meter, Audit, Multi, Play, Compile}
 
 -- the words spell the task, and its numbers are in range
 abbrev Spells : List Word → Task → Type 0
@@ -160,6 +160,7 @@ task_read (Check from count) is =
     ap (λ o. option_map Over (o >>= λ a. number_within 0 200000 (decimal count) >>= λ b. Some (Check a b))) f
     ∙ ap (λ o. option_map Over (o >>= λ b. Some (Check from b))) n
 task_read Replay is = refl
+task_read Sessions is = refl
 task_read (Meter coin line lo hi) is =
     let k = (number_within_exact 1 5 (omega arith)).again coin (is.some, is.most) in
     let h = (number_within_exact 0 500000 (omega arith)).again hi (omega arith, is.most_payment) in
@@ -197,13 +198,20 @@ over_spelled words (Some task) command e is =
     let same : Over task ≡ command = cc in
     subst (λ (c : Command). Says words c) same (is task refl)
 
+-- a word that is this key alone, and else the choice behind it
+keyed_alone : (key word : Word) (here command : Command) (other : Option Command) → (if bytes_eq word key then Some here else other) ≡ Some command
+    → Says (key ∷ []) here → (other ≡ Some command → Says (word ∷ []) command) → Says (word ∷ []) command
+keyed_alone key word here command other e is there =
+    chosen (λ (c : Command). Says (word ∷ []) c) (bytes_eq word key) (Some here) other command e
+    (λ same said. let found : here ≡ command = cc in subst (λ (c : Command). Says (word ∷ []) c) found (subst (λ (w : Word). Says (w ∷ []) here) (sym ((bytes_eq-Decides word key).0 same)) is))
+    there
+
+-- a line for each command of one word
 alone_spelled : (word : Word) (command : Command) → alone word ≡ Some command → Says (word ∷ []) command
 alone_spelled word command e =
-    chosen (λ (c : Command). Says (word ∷ []) c) (bytes_eq word (codes "tables")) (Some Tables) (if bytes_eq word (codes "replay") then Some (Over Replay) else None) command e
-    (λ is said. let same : Tables ≡ command = cc in subst (λ (c : Command). Says (word ∷ []) c) same (ap (λ (w : Word). w ∷ []) ((bytes_eq-Decides word (codes "tables")).0 is), tt))
-    (λ other. chosen (λ (c : Command). Says (word ∷ []) c) (bytes_eq word (codes "replay")) (Some (Over Replay)) None command other
-    (λ is said. let same : Over Replay ≡ command = cc in subst (λ (c : Command). Says (word ∷ []) c) same (ap (λ (w : Word). w ∷ []) ((bytes_eq-Decides word (codes "replay")).0 is), tt))
-    (λ none. absurd cc))
+    keyed_alone (codes "tables") word Tables command _ e (refl, tt) (λ e.
+    keyed_alone (codes "replay") word (Over Replay) command _ e (refl, tt) (λ e.
+    keyed_alone (codes "sessions") word (Over Sessions) command None e (refl, tt) (λ none. absurd cc)))
 
 read_spelled : (words : List Word) (command : Command) → command_of words ≡ Some command → Says words command
 unfolding command_of

@@ -41,7 +41,7 @@ use Rattle.vp_audit.proofs.CompiledLists.{compiled_is}
 use Rattle.vp_audit.proofs.MaskedLists.{best_lose_least}
 use Rattle.vp_audit.proofs.OrderLosses.{left_is, order_is}
 use Rattle.vp_answer.specs.Answers.{Answer, answer_read, done}
-use Rattle.vp_run.specs.Answer.{answer, compile_job, job_text, read_as}
+use Rattle.vp_run.specs.Answer.{answer, compile_job, job_answer, read_as}
 use Rattle.vp_run.specs.Audit.{audit_input, audit_lines}
 use Rattle.vp_run.specs.Commands.{command_of}
 use Rattle.vp_run.specs.Compile.{IsPooled, Pooled, class_number, compile_input, compile_lines, excepted, first_places, last_places, limit, matrix, printed_list, said_lines}
@@ -68,7 +68,7 @@ pooled words coin millionths bytes table pool is says =
 compile_as : (words : List Word) (coin millionths : ℕ) (bytes : List ℕ) (table : PayTable) (pool : RulePool) → command_of words ≡ Some (Over (Compile coin millionths)) → compile_input coin bytes ≡ Ok (table, pool)
     → done (written (compile_lines (record { table = table; coin = coin; millionths = millionths; pool = pool }))) ≡ answer words bytes
 compile_as words coin millionths bytes table pool is says =
-    ap (λ r. answer_read job_text (read_as (compile_job coin millionths) r)) (sym says) ∙ answer_as words (Some (Over (Compile coin millionths))) bytes is
+    ap (λ r. answer_read job_answer (read_as (compile_job coin millionths) r)) (sym says) ∙ answer_as words (Some (Over (Compile coin millionths))) bytes is
 
 -- ---- the list that is printed loses little
 

@@ -17,7 +17,7 @@ use Rattle.vp_draws.specs.Draws.{IsPrinted, best, least_best}
 use Rattle.vp_draws.proofs.Chosen.{printed}
 use Rattle.vp_answer.specs.Answers.{Answer, answer_read, done}
 use Rattle.vp_answer.proofs.Inputs.{hands_read}
-use Rattle.vp_run.specs.Answer.{answer, deal_job, job_text, read_as}
+use Rattle.vp_run.specs.Answer.{answer, deal_job, job_answer, read_as}
 use Rattle.vp_run.specs.Commands.{command_of}
 use Rattle.vp_run.specs.Deal.{Dealt, deal_input, deal_lines, has_bet}
 use Rattle.vp_run.specs.EveryDeal.{DealsPrintBestHolds}
@@ -57,7 +57,7 @@ dealt_set n cards dealt = record {
 deal_as : (words : List Word) (coin : ℕ) (bytes : List ℕ) (table : PayTable) (hand : List ℕ) → command_of words ≡ Some (Over (Deal coin)) → deal_input coin bytes ≡ Ok (table, hand)
     → done (written (deal_lines (record { table = table; coin = coin; hand = hand }))) ≡ answer words bytes
 deal_as words coin bytes table hand is says =
-    ap (λ r. answer_read job_text (read_as (deal_job coin) r)) (sym says) ∙ answer_as words (Some (Over (Deal coin))) bytes is
+    ap (λ r. answer_read job_answer (read_as (deal_job coin) r)) (sym says) ∙ answer_as words (Some (Over (Deal coin))) bytes is
 
 pub deals_print : DealsPrintBestHolds
 deals_print words coin bytes table hand is says =

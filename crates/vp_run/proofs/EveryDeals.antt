@@ -17,7 +17,7 @@ use Rattle.vp_check.proofs.PlainCertificates.{written_whole}
 use Rattle.vp_check.proofs.ShortTexts.{short_certificate}
 use Rattle.vp_check.proofs.TrueOnes.{all_walked_true, due_is_certificate, due_is_true, true_anywhere}
 use Rattle.vp_answer.specs.Answers.{Answer, answer_read, done}
-use Rattle.vp_run.specs.Answer.{answer, certify_job, check_read, job_text, read_as}
+use Rattle.vp_run.specs.Answer.{answer, certify_job, check_read, job_answer, read_as}
 use Rattle.vp_run.specs.Certify.{certify_input}
 use Rattle.vp_run.specs.Deal.{has_bet}
 use Rattle.vp_run.specs.Commands.{command_of}
@@ -43,7 +43,7 @@ bet_found words coin bytes table is says =
 certify_as : (words : List Word) (coin : ℕ) (bytes : List ℕ) (table : PayTable) → command_of words ≡ Some (Over (Certify coin)) → certify_input coin bytes ≡ Ok (table, tt)
     → done (written (certificate_text (due_certificate table coin))) ≡ answer words bytes
 certify_as words coin bytes table is says =
-    ap (λ r. answer_read job_text (read_as (certify_job coin) r)) (sym says) ∙ answer_as words (Some (Over (Certify coin))) bytes is
+    ap (λ r. answer_read job_answer (read_as (certify_job coin) r)) (sym says) ∙ answer_as words (Some (Over (Certify coin))) bytes is
 
 pub certificates_tell : CertificatesTellEveryDeal
 unfolding due_certificate
@@ -66,15 +66,15 @@ certificates_tell words coin bytes table is says =
 -- ---- check
 
 -- a check that is done found no broken rule
-done_true : (from count : ℕ) (c : Certificate) (feed : Feed) (broken : Option Break) → first_break from count c ≡ broken → (answer_read job_text (check_read (verdict from count c feed broken))).status ≡ Done → IsTrueOver from count c
+done_true : (from count : ℕ) (c : Certificate) (feed : Feed) (broken : Option Break) → first_break from count c ≡ broken → (answer_read job_answer (check_read (verdict from count c feed broken))).status ≡ Done → IsTrueOver from count c
 done_true from count c feed None is done = is
 done_true from count c feed (Some b) is done = absurd (cc)
 
 pub check_true : (words : List Word) (from count : ℕ) (bytes : List ℕ) (c : Certificate) → command_of words ≡ Some (Over (Check from count)) → SpellsCertificate bytes c → (answer words bytes).status ≡ Done → IsTrueOver from count c
 check_true words from count bytes c is spells done =
-    let same : answer_read job_text (check_read (check_result bytes from count)) ≡ answer words bytes = answer_as words (Some (Over (Check from count))) bytes is in
-    let due : (answer_read job_text (check_read (verdict from count c (feed_of bytes) (first_break from count c)))).status ≡ Done =
-    ap (λ v. (answer_read job_text (check_read v)).status) (sym (judged from count bytes c spells)) ∙ (ap (λ (a : Answer). a.status) same ∙ done) in
+    let same : answer_read job_answer (check_read (check_result bytes from count)) ≡ answer words bytes = answer_as words (Some (Over (Check from count))) bytes is in
+    let due : (answer_read job_answer (check_read (verdict from count c (feed_of bytes) (first_break from count c)))).status ≡ Done =
+    ap (λ v. (answer_read job_answer (check_read v)).status) (sym (judged from count bytes c spells)) ∙ (ap (λ (a : Answer). a.status) same ∙ done) in
     done_true from count c (feed_of bytes) (first_break from count c) refl due
 
 pub checks_tell : ChecksTellEveryDeal
@@ -100,4 +100,4 @@ certificates_checked words coin bytes table is says =
         let text = written (certificate_text c) in
         let unbroken : first_break from count c ≡ None = true_anywhere from count c grammar (rw due (due_is_true table coin bet.rules)) in
         let result : check_result text from count ≡ verdict from count c (feed_of text) None = verdict_is text from count c None (written_whole c grammar) unbroken in
-        ap (λ (a : Answer). a.status) (sym (answer_as others (Some (Over (Check from count))) text asks)) ∙ ap (λ v. (answer_read job_text (check_read v)).status) result
+        ap (λ (a : Answer). a.status) (sym (answer_as others (Some (Over (Check from count))) text asks)) ∙ ap (λ v. (answer_read job_answer (check_read v)).status) result

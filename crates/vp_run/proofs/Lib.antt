@@ -9,6 +9,9 @@ pub mod EveryDeals
 pub mod CheckedInParts
 pub mod ReplayWords
 pub mod Replays
+pub mod SessionInputs
+pub mod SessionLines
+pub mod SessionAnswers
 pub mod MadeLogs
 pub mod Plays
 pub mod CompiledPools

@@ -18,7 +18,7 @@ use Rattle.vp_meter.specs.Metered.{IsMetering, Metering}
 use Rattle.vp_meter.specs.Spelling.{meter_text}
 use Rattle.vp_answer.specs.Answers.{Answer, answer_read, done}
 use Rattle.vp_answer.proofs.Inputs.{tables_read}
-use Rattle.vp_run.specs.Answer.{answer, job_text, meter_job, read_as}
+use Rattle.vp_run.specs.Answer.{answer, job_answer, meter_job, read_as}
 use Rattle.vp_run.specs.Commands.{command_of}
 use Rattle.vp_run.specs.Deal.{has_bet}
 use Rattle.vp_run.specs.EveryDeal.{MetersAreTold}
@@ -67,7 +67,7 @@ some_place None h = absurd cc
 meter_as : (words : List Word) (coin lo hi : ℕ) (name bytes : List ℕ) (table : PayTable) → command_of words ≡ Some (Over (Meter coin name lo hi)) → meter_input coin name bytes ≡ Ok (table, tt)
     → done (written (meter_text (metering_of coin name table) lo hi)) ≡ answer words bytes
 meter_as words coin lo hi name bytes table is says =
-    ap (λ r. answer_read job_text (read_as (meter_job coin name lo hi) r)) (sym says) ∙ answer_as words (Some (Over (Meter coin name lo hi))) bytes is
+    ap (λ r. answer_read job_answer (read_as (meter_job coin name lo hi) r)) (sym says) ∙ answer_as words (Some (Over (Meter coin name lo hi))) bytes is
 
 pub meters_told : MetersAreTold
 meters_told words coin lo hi name bytes table is says =

@@ -1,15 +1,19 @@
 -- Words that are no command have one answer, whatever the input; and a command has the answer of its own.
-use Rattle.std.proofs.Common.{◌≡◌, ℕ, List, true, false, ◌≢◌, refl, Option, Some, None, Result, Ok, Err, sym, ap}
+use Rattle.std.proofs.Common.{◌≡◌, ℕ, zero, suc, List, true, false, ◌≢◌, refl, Option, Some, None, Result, Ok, Err, sym, ap}
 use Rattle.std.specs.Prelude.{is_some}
 use Rattle.vp_answer.specs.Answers.{answer_read}
 use Rattle.vp_answer.specs.declared.status.Status.TheVariants.{Usage}
 use Rattle.vp_answer.specs.declared.stop.Stop.{Stop}
-use Rattle.vp_answer.specs.declared.stop.Stop.TheVariants.{Finding as Found, Refused as Refusal}
-use Rattle.vp_run.specs.Answer.{answer, answer_to, is_command, job_of, job_text, tables_answer, usage}
+use Rattle.vp_answer.specs.declared.stop.Stop.TheVariants.{Finding as Found, Record as RecordRefusal, Refused as Refusal}
+use Rattle.vp_run.specs.Answer.{answer, answer_to, is_command, job_answer, job_of, job_status, tables_answer, usage}
 use Rattle.vp_run.specs.Commands.{command_of}
 use Rattle.vp_run.specs.declared.command.Command.{Command}
 use Rattle.vp_run.specs.declared.command.Command.TheVariants.{Over, Tables}
 use Rattle.vp_run.specs.declared.job.Job.{Job}
+use Rattle.vp_run.specs.declared.job.Job.TheVariants.{Sessions}
+use Rattle.vp_run.specs.Sessions.{Mixed, by_record, sessions_answer, status_by, unlawful}
+use Rattle.vp_csv.specs.Rules.{refused_record}
+use Rattle.vp_csv.specs.Sessions.{sessions_of}
 
 no_answer : (command : Option Command) (bytes : List ℕ) → is_some command ≡ false → answer_to command bytes ≡ usage
 no_answer None bytes none = refl
@@ -20,9 +24,23 @@ pub answer_usage : (words : List (List ℕ)) (bytes : List ℕ) → is_command w
 unfolding answer is_command
 answer_usage words bytes none = no_answer (command_of words) bytes none
 
-read_usage : (read : Result Job Stop) → (answer_read job_text read).status ≢ Usage
-read_usage (Ok job) same = absurd (cc)
+found_usage : (count : ℕ) → status_by count ≢ Usage
+found_usage zero same = absurd (cc)
+found_usage (suc count) same = absurd (cc)
+
+record_usage : (m : Mixed) (o : Option ℕ) → (by_record m o).status ≢ Usage
+record_usage m (Some place) same = absurd (cc)
+record_usage m None same = found_usage (unlawful m.table (sessions_of m.table.deck m.csv)) same
+
+job_usage : (job : Job) → job_status job ≢ Usage
+unfolding sessions_answer
+job_usage (Sessions m) same = record_usage m (refused_record m.table.deck m.csv) same
+job_usage job same = absurd (cc)
+
+read_usage : (read : Result Job Stop) → (answer_read job_answer read).status ≢ Usage
+read_usage (Ok job) same = job_usage job same
 read_usage (Err (Refusal line)) same = absurd (cc)
+read_usage (Err (RecordRefusal place)) same = absurd (cc)
 read_usage (Err (Found line rule said due)) same = absurd (cc)
 
 command_usage : (command : Option Command) (bytes : List ℕ) → is_some command ≡ true → (answer_to command bytes).status ≢ Usage

@@ -16,7 +16,7 @@ use Rattle.vp_replay.specs.declared.rule.Broken.{Broken}
 use Rattle.vp_gen.proofs.Sizes.{log_width}
 use Rattle.vp_answer.specs.Answers.{Answer, answer_read, done}
 use Rattle.vp_answer.proofs.Inputs.{tables_read}
-use Rattle.vp_run.specs.Answer.{answer, job_text, judged_log, play_job, read_as}
+use Rattle.vp_run.specs.Answer.{answer, job_answer, judged_log, play_job, read_as}
 use Rattle.vp_run.specs.Commands.{command_of}
 use Rattle.vp_run.specs.Deal.{has_bet}
 use Rattle.vp_run.specs.Play.{IsPlayed, Played, log_of, play_input, play_lines}
@@ -65,7 +65,7 @@ replayed p is = record {
   short = file_short p is;
   answered = λ words asks.
       sym (replay_as words (log_file p) p.table (log_of p) asks (file_says p is))
-      ∙ ap (λ (o : Option Broken). answer_read job_text (judged_log p.table (log_of p) o)) (log_accepted p is).lawful;
+      ∙ ap (λ (o : Option Broken). answer_read job_answer (judged_log p.table (log_of p) o)) (log_accepted p is).lawful;
 }
 
 -- ---- the answer of `play`
@@ -80,7 +80,7 @@ play_found words coin seed games bytes table is says =
 play_as : (words : List Word) (coin seed games : ℕ) (bytes : List ℕ) (table : PayTable) → command_of words ≡ Some (Over (Play coin seed games)) → play_input coin bytes ≡ Ok (table, tt)
     → done (written (play_lines (record { table = table; coin = coin; seed = seed; games = games }))) ≡ answer words bytes
 play_as words coin seed games bytes table is says =
-    ap (λ r. answer_read job_text (read_as (play_job coin seed games) r)) (sym says) ∙ answer_as words (Some (Over (Play coin seed games))) bytes is
+    ap (λ r. answer_read job_answer (read_as (play_job coin seed games) r)) (sym says) ∙ answer_as words (Some (Over (Play coin seed games))) bytes is
 
 pub plays_replayed : PlaysAreReplayed
 plays_replayed words coin seed games bytes table is says =

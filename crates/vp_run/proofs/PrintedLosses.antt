@@ -12,7 +12,7 @@ use Rattle.vp_audit.specs.Audits.{audited, loss}
 use Rattle.vp_audit.proofs.LeastAllowed.{by_exception, by_nothing, ruled, ruled_greatest}
 use Rattle.vp_audit.proofs.Shares.{deals_shared, least_at_most, loss_shared, worth_shared}
 use Rattle.vp_answer.specs.Answers.{Answer, answer_read, done}
-use Rattle.vp_run.specs.Answer.{answer, audit_job, job_text, read_as}
+use Rattle.vp_run.specs.Answer.{answer, audit_job, job_answer, read_as}
 use Rattle.vp_run.specs.Audit.{Listed, audit_input, audit_lines}
 use Rattle.vp_run.specs.Deal.{has_bet}
 use Rattle.vp_run.specs.Losses.{AuditsPrintLosses, PrintsLoss}
@@ -27,7 +27,7 @@ use Rattle.vp_run.proofs.NoCommand.{answer_as}
 pub audit_as : (words : List Word) (coin : ℕ) (bytes : List ℕ) (table : PayTable) (list : RuleList) → command_of words ≡ Some (Over (Audit coin)) → audit_input coin bytes ≡ Ok (table, list)
     → done (written (audit_lines (record { table = table; coin = coin; list = list }))) ≡ answer words bytes
 audit_as words coin bytes table list is says =
-    ap (λ r. answer_read job_text (read_as (audit_job coin) r)) (sym says) ∙ answer_as words (Some (Over (Audit coin))) bytes is
+    ap (λ r. answer_read job_answer (read_as (audit_job coin) r)) (sym says) ∙ answer_as words (Some (Over (Audit coin))) bytes is
 
 -- the list is one for the table, which has the bet
 list_found : (words : List Word) (coin : ℕ) (bytes : List ℕ) (table : PayTable) (list : RuleList) → command_of words ≡ Some (Over (Audit coin)) → audit_input coin bytes ≡ Ok (table, list)

@@ -13,7 +13,7 @@ use Rattle.vp_multi.proofs.DeckSums.{variance_has_two_parts}
 use Rattle.vp_multi.proofs.Printed.{has_printed_hold, printed_alike}
 use Rattle.vp_answer.specs.Answers.{Answer, answer_read, done}
 use Rattle.vp_answer.proofs.Inputs.{tables_read}
-use Rattle.vp_run.specs.Answer.{answer, job_text, multi_job, read_as}
+use Rattle.vp_run.specs.Answer.{answer, job_answer, multi_job, read_as}
 use Rattle.vp_run.specs.Commands.{command_of}
 use Rattle.vp_run.specs.Deal.{has_bet}
 use Rattle.vp_run.specs.Moments.{HasMoments, MultisPrintMoments, PrintsMoments}
@@ -26,7 +26,7 @@ use Rattle.vp_run.proofs.NoCommand.{answer_as}
 multi_as : (words : List Word) (coin hands : ℕ) (bytes : List ℕ) (table : PayTable) → command_of words ≡ Some (Over (Multi coin hands)) → multi_input coin bytes ≡ Ok (table, tt)
     → done (written (multi_lines (record { table = table; coin = coin; hands = hands }))) ≡ answer words bytes
 multi_as words coin hands bytes table is says =
-    ap (λ r. answer_read job_text (read_as (multi_job coin hands) r)) (sym says) ∙ answer_as words (Some (Over (Multi coin hands))) bytes is
+    ap (λ r. answer_read job_answer (read_as (multi_job coin hands) r)) (sym says) ∙ answer_as words (Some (Over (Multi coin hands))) bytes is
 
 -- the moments of a deal
 deal_moments : (d : Drawn) (cards : List ℕ) (mask : ℕ) → IsTable d.table → IsDeal d.table.deck cards → IsPrintedHold d.table d.coin cards mask → HasMoments d cards mask

@@ -23,7 +23,7 @@ use Rattle.vp_replay.proofs.Costing.{cost_is, length-in_order}
 use Rattle.vp_replay.proofs.Runs.{lawful_game, lawful_games}
 use Rattle.vp_answer.specs.Answers.{Answer, answer_read}
 use Rattle.vp_answer.proofs.Inputs.{section_read}
-use Rattle.vp_run.specs.Answer.{answer, job_text, judged_log, log_read}
+use Rattle.vp_run.specs.Answer.{answer, job_answer, judged_log, log_read}
 use Rattle.vp_run.specs.Commands.{command_of}
 use Rattle.vp_run.specs.Replay.{ReplayInputsAreRead, as_spelled, fits_all, replay_input}
 use Rattle.vp_run.specs.Replayed.{IsFirstBreak, NamesBreak, ReplaysTellCosts, TellsCosts}
@@ -96,7 +96,7 @@ costs_are : (table : PayTable) (credits : ℕ) (events : List Event) → IsTable
 costs_are table credits [] known games all = tt
 costs_are table credits (e ∷ events) known games all = (cost_is table e known all.0.cards (length-in_order e.deal ∙ all.0.deal) games.0.event.cards, costs_are table e.credits events known games.1 all.1)
 
-judged : (table : PayTable) (log : LogValue) → IsTable table × IsLog table.deck log → (o : Option Broken) → break_in table log ≡ o → (due : Answer) → answer_read job_text (judged_log table log o) ≡ due
+judged : (table : PayTable) (log : LogValue) → IsTable table × IsLog table.deck log → (o : Option Broken) → break_in table log ≡ o → (due : Answer) → answer_read job_answer (judged_log table log o) ≡ due
     → TellsCosts table log due ⊎ NamesBreak table log due
 judged table log valid None none due is =
     let games = lawful_games table 1 log.start log.events none in
@@ -110,8 +110,8 @@ judged table log valid (Some b) some due is = inr (record { broken = b; first = 
 
 -- the answer of `replay` to what its input says
 pub replay_as : (words : List Word) (bytes : List ℕ) (table : PayTable) (log : LogValue) → command_of words ≡ Some (Over Replay) → replay_input bytes ≡ Ok (table, log)
-    → answer_read job_text (judged_log table log (break_in table log)) ≡ answer words bytes
-replay_as words bytes table log is says = ap (λ r. answer_read job_text (log_read r)) (sym says) ∙ answer_as words (Some (Over Replay)) bytes is
+    → answer_read job_answer (judged_log table log (break_in table log)) ≡ answer words bytes
+replay_as words bytes table log is says = ap (λ r. answer_read job_answer (log_read r)) (sym says) ∙ answer_as words (Some (Over Replay)) bytes is
 
 pub replays_tell : ReplaysTellCosts
 replays_tell words bytes table log is says =

@@ -16,7 +16,8 @@ use Rattle.vp_replay.specs.Rules.{break_in}
 use Rattle.vp_replay.specs.Summaries.{replay_lines}
 use Rattle.vp_replay.specs.declared.rule.Broken.{Broken}
 use Rattle.vp_answer.specs.Answers.{Answer, answer_read, done}
-use Rattle.vp_answer.specs.declared.status.Status.TheVariants.{Usage}
+use Rattle.vp_answer.specs.declared.status.Status.{Status}
+use Rattle.vp_answer.specs.declared.status.Status.TheVariants.{Done, Usage}
 use Rattle.vp_answer.specs.declared.stop.Stop.{Stop}
 use Rattle.vp_answer.specs.declared.stop.Stop.TheVariants.{Finding as Found, Refused as Refusal}
 use Rattle.vp_rule.specs.Lists.{RuleList, RulePool}
@@ -25,13 +26,14 @@ use Rattle.vp_run.specs.Certify.{certify_input}
 use Rattle.vp_run.specs.Check.{checked_lines, rule_of}
 use Rattle.vp_run.specs.Commands.{command_of, reads}
 use Rattle.vp_run.specs.Deal.{deal_input, deal_lines}
-use Rattle.vp_run.specs.Replay.{replay_input, rule_of as law_of}
+use Rattle.vp_run.specs.Replay.{replay_input, stop_of}
+use Rattle.vp_run.specs.Sessions.{Mixed, sessions_answer, sessions_input}
 use Rattle.vp_run.specs.declared.command.Command.{Command}
 use Rattle.vp_run.specs.declared.command.Command.TheVariants.{Over, Tables}
 use Rattle.vp_run.specs.declared.command.Task.{Task}
-use Rattle.vp_run.specs.declared.command.Task.TheVariants.{Certify, Check, Deal, Replay, Meter, Audit, Multi, Play, Compile}
+use Rattle.vp_run.specs.declared.command.Task.TheVariants.{Certify, Check, Deal, Replay, Sessions, Meter, Audit, Multi, Play, Compile}
 use Rattle.vp_run.specs.declared.job.Job.{Job}
-use Rattle.vp_run.specs.declared.job.Job.TheVariants.{Certify as CertifyJob, Checked as CheckedJob, Deal as DealJob, Replay as ReplayJob, Meter as MeterJob, Audit as AuditJob, Multi as MultiJob, Play as PlayJob, Compile as CompileJob}
+use Rattle.vp_run.specs.declared.job.Job.TheVariants.{Certify as CertifyJob, Checked as CheckedJob, Deal as DealJob, Replay as ReplayJob, Sessions as SessionsJob, Meter as MeterJob, Audit as AuditJob, Multi as MultiJob, Play as PlayJob, Compile as CompileJob}
 use Rattle.vp_run.specs.Meter.{meter_input, metering_of}
 use Rattle.vp_meter.specs.Spelling.{meter_text}
 use Rattle.vp_run.specs.Multi.{multi_input, multi_lines}
@@ -75,7 +77,7 @@ check_read (Ok checked) = Ok (CheckedJob checked)
 -- a log is stopped at its first broken law, where there is one
 abbrev pub judged_log : PayTable → LogValue → Option Broken → Result Job Stop
 judged_log table log None = Ok (ReplayJob (record { table = table; log = log }))
-judged_log table log (Some b) = Err (Found b.game (law_of b.rule) b.said b.due)
+judged_log table log (Some b) = Err (stop_of b)
 
 abbrev pub replay_read : PayTable → LogValue → Result Job Stop
 replay_read table log = judged_log table log (break_in table log)
@@ -85,6 +87,9 @@ abbrev pub log_read : Result (PayTable × LogValue) ℕ → Result Job Stop
 log_read (Ok read) = replay_read read.0 read.1
 log_read (Err line) = Err (Refusal line)
 
+abbrev pub sessions_job : PayTable × List ℕ → Job
+sessions_job read = SessionsJob (record { table = read.0; csv = read.1 })
+
 -- what is left to do once a task has read its input, or where it stops
 abbrev pub job_of : Task → List ℕ → Result Job Stop
 job_of (Deal coin) bytes = read_as (deal_job coin) (deal_input coin bytes)
@@ -92,6 +97,7 @@ job_of (Certify coin) bytes = read_as (certify_job coin) (certify_input coin byt
 job_of (Audit coin) bytes = read_as (audit_job coin) (audit_input coin bytes)
 job_of (Check from count) bytes = check_read (check_result bytes from count)
 job_of Replay bytes = log_read (replay_input bytes)
+job_of Sessions bytes = read_as sessions_job (sessions_input bytes)
 job_of (Meter coin name lo hi) bytes = read_as (meter_job coin name lo hi) (meter_input coin name bytes)
 job_of (Multi coin hands) bytes = read_as (multi_job coin hands) (multi_input coin bytes)
 job_of (Play coin seed games) bytes = read_as (play_job coin seed games) (play_input coin bytes)
@@ -109,6 +115,8 @@ job_text (AuditJob l) = written (audit_lines l)
 job_text (CheckedJob checked) = written (checked_lines checked)
 -- of `replay`: the costs of its games, and the numbers of the log
 job_text (ReplayJob l) = written (replay_lines l.table l.log)
+-- of `sessions`: the lines of each session, or that of the first record that breaks its rule
+job_text (SessionsJob m) = (sessions_answer m).text
 -- of `meter`: the classes with their segments, and the pieces
 job_text (MeterJob r) = written (meter_text r.metering r.lo r.hi)
 -- of `multi`: the four lines of the moments
@@ -117,6 +125,15 @@ job_text (MultiJob d) = written (multi_lines d)
 job_text (PlayJob p) = written (play_lines p)
 -- of `compile`: the numbers that are said of the list, and the list
 job_text (CompileJob p) = written (compile_lines p)
+
+-- the status with which a job ends
+abbrev pub job_status : Job → Status
+job_status (SessionsJob m) = (sessions_answer m).status
+job_status job = Done
+
+-- the answer of a job
+abbrev pub job_answer : Job → Answer
+job_answer job = record { status = job_status job; text = job_text job }
 
 -- ---- words that need no input
 
@@ -137,7 +154,7 @@ tables_answer = done (built_in_text 0 ++ (built_in_text 1 ++ (built_in_text 2 ++
 -- the answer of a command to an input
 abbrev pub command_answer : Command → List ℕ → Answer
 command_answer Tables bytes = tables_answer
-command_answer (Over task) bytes = answer_read job_text (job_of task bytes)
+command_answer (Over task) bytes = answer_read job_answer (job_of task bytes)
 
 -- the answer to words, by the command that they are, if they are one
 abbrev pub answer_to : Option Command → List ℕ → Answer

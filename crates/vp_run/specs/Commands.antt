@@ -8,7 +8,7 @@ use Rattle.vp_pay.specs.Names.{is_name}
 use Rattle.vp_run.specs.declared.command.Command.{Command}
 use Rattle.vp_run.specs.declared.command.Command.TheVariants.{Over, Tables}
 use Rattle.vp_run.specs.declared.command.Task.{Task}
-use Rattle.vp_run.specs.declared.command.Task.TheVariants.{Certify, Check, Deal, Replay, Meter, Audit, Multi, Play, Compile}
+use Rattle.vp_run.specs.declared.command.Task.TheVariants.{Certify, Check, Deal, Replay, Sessions, Meter, Audit, Multi, Play, Compile}
 
 -- ---- how a command is spelled
 
@@ -19,6 +19,7 @@ task_words (Certify coin) = codes "certify" ∷ decimal coin ∷ []
 task_words (Audit coin) = codes "audit" ∷ decimal coin ∷ []
 task_words (Check from count) = codes "check" ∷ decimal from ∷ decimal count ∷ []
 task_words Replay = codes "replay" ∷ []
+task_words Sessions = codes "sessions" ∷ []
 task_words (Meter coin line lo hi) = codes "meter" ∷ decimal coin ∷ line ∷ decimal lo ∷ decimal hi ∷ []
 task_words (Multi coin hands) = codes "multi" ∷ decimal coin ∷ decimal hands ∷ []
 task_words (Play coin seed games) = codes "play" ∷ decimal coin ∷ decimal seed ∷ decimal games ∷ []
@@ -71,6 +72,7 @@ InRange (Certify coin) = (1 ≤ coin) × (coin ≤ 5)
 InRange (Audit coin) = (1 ≤ coin) × (coin ≤ 5)
 InRange (Check from count) = IsRange from count
 InRange Replay = Unit {0}
+InRange Sessions = Unit {0}
 InRange (Meter coin line lo hi) = IsMeter coin line lo hi
 InRange (Multi coin hands) = AreHands coin hands
 InRange (Play coin seed games) = IsPlay coin seed games
@@ -165,7 +167,11 @@ task_of word numbers =
 
 -- the command of a word alone
 abbrev pub alone : Word → Option Command
-alone word = if bytes_eq word (codes "tables") then Some Tables else (if bytes_eq word (codes "replay") then Some (Over Replay) else None)
+alone word =
+    if bytes_eq word (codes "tables") then Some Tables
+    else (if bytes_eq word (codes "replay") then Some (Over Replay)
+    else (if bytes_eq word (codes "sessions") then Some (Over Sessions)
+    else None))
 
 -- the command that the words are, if they are one
 unfoldable pub command_of : List Word → Option Command

@@ -6,6 +6,7 @@ pub mod Play
 pub mod Compile
 pub mod Check
 pub mod Replay
+pub mod Sessions
 pub mod Meter
 pub mod Answer
 pub mod Audit
@@ -14,6 +15,7 @@ pub mod Arguments
 pub mod EveryDeal
 pub mod CheckedInParts
 pub mod Replayed
+pub mod SessionsTold
 pub mod Played
 pub mod PrintedLists
 pub mod Losses

@@ -9,9 +9,9 @@ use Rattle.vp_run.specs.Compile.{compile_words}
 use Rattle.vp_run.specs.declared.command.Command.{Command}
 use Rattle.vp_run.specs.declared.command.Command.TheVariants.{Over, Tables}
 use Rattle.vp_run.specs.declared.job.Job.{Job}
-use Rattle.vp_run.specs.declared.job.Job.TheVariants.{Certify, Checked, Deal, Replay, Meter, Audit, Multi, Play, Compile}
+use Rattle.vp_run.specs.declared.job.Job.TheVariants.{Certify, Checked, Deal, Replay, Sessions, Meter, Audit, Multi, Play, Compile}
 
--- `deal`, `certify` and `audit` need a table of sums for the deck of their pay table, `multi` two, and `replay` one for each bet; `check`
+-- `deal`, `certify` and `audit` need a table of sums for the deck of their pay table, `multi` two, and `replay` and `sessions` one for each bet; `check`
 -- walks the draws in place; `meter` needs two such tables, and four words for each payment; `play` needs one for each bet, and one more;
 -- `compile` needs one, and words for its matrix
 abbrev pub job_words : Job → ℕ
@@ -20,6 +20,7 @@ job_words (Certify s) = first_word s.table.deck 6
 job_words (Audit l) = first_word l.table.deck 6
 job_words (Checked c) = 0
 job_words (Replay l) = l.table.coins * first_word l.table.deck 6
+job_words (Sessions m) = m.table.coins * first_word m.table.deck 6
 job_words (Meter r) = 2 * first_word r.metering.table.deck 6 + 4 * (r.hi - r.lo + 1)
 job_words (Multi d) = 2 * first_word d.table.deck 6
 job_words (Play p) = (p.table.coins + 1) * first_word p.table.deck 6
@@ -35,10 +36,12 @@ command_room (Some (Over task)) bytes = words_read job_words (job_of task bytes)
 unfoldable pub region_words : List (List ℕ) → List ℕ → ℕ
 region_words words bytes = command_room (command_of words) bytes
 
--- `play` needs memory for its log, and `compile` for the places of its exceptions; no other job needs any beside its words
+-- `play` needs memory for its log, `compile` for the places of its exceptions, and `sessions` for its logs; no other job needs any beside
+-- its words
 abbrev pub job_alone : Job → Bool
 job_alone (Play p) = false
 job_alone (Compile p) = false
+job_alone (Sessions m) = false
 job_alone job = true
 
 abbrev pub command_alone : Option Command → List ℕ → Bool

@@ -6,11 +6,14 @@ use Rattle.vp_loggram.specs.Logs.{IsLog, LogValue}
 use Rattle.vp_loggram.specs.Sections.{log_at}
 use Rattle.vp_loggram.specs.Spelling.{log_text}
 use Rattle.vp_replay.specs.Rules.{break_in}
+use Rattle.vp_replay.specs.declared.rule.Broken.{Broken}
 use Rattle.vp_replay.specs.declared.rule.LogRule.{LogRule}
 use Rattle.vp_replay.specs.declared.rule.LogRule.TheVariants as law
 use Rattle.vp_answer.specs.Inputs.{AreRead, RefusesSection, SpellsSection, section_input}
 use Rattle.vp_answer.specs.declared.rule.Rule.{Rule}
 use Rattle.vp_answer.specs.declared.rule.Rule.TheVariants as rule
+use Rattle.vp_answer.specs.declared.stop.Stop.{Stop}
+use Rattle.vp_answer.specs.declared.stop.Stop.TheVariants.{Finding as Found}
 
 -- every table fits
 abbrev pub fits_all : PayTable → Bool
@@ -41,6 +44,10 @@ rule_of law.Count = rule.Count
 rule_of law.Draw = rule.Draw
 rule_of law.Pay = rule.Pay
 rule_of law.Credits = rule.Credits
+
+-- what a log with a broken law is stopped with
+abbrev pub stop_of : Broken → Stop
+stop_of b = Found b.game (rule_of b.rule) b.said b.due
 
 -- the log, as it is spelled
 abbrev pub as_spelled : LogValue → LogValue

@@ -25,6 +25,8 @@ pub enum Task {
     },
     /// `replay`: the first broken law of a log of games, or what its holds cost.
     Replay,
+    /// `sessions`: the lines of `replay` for each of the logs that a CSV text has, by session.
+    Sessions,
     /// `meter COIN LINE LO HI`: which holds are best from which payment on, where the payment of the line with this name
     /// goes from LO to HI, for a bet of 1 to 5 coins.
     Meter {
@@ -84,6 +86,7 @@ fn alone(word: &str) -> Option<Command>
     match word {
         "tables" => Some(Command::Tables),
         "replay" => Some(Command::Over(Task::Replay)),
+        "sessions" => Some(Command::Over(Task::Sessions)),
         _ => None,
     }
 }

@@ -11,7 +11,7 @@ ghost use Rattle.vp_run.specs.Compile.{IsCompiled, IsPooled, class_number, compi
 use std::alloc::{AllocError, Global};
 use std::marker::{Brand, Model};
 use std::sync::ledger::{Blank, Ledger};
-use vp_answer::PutStop;
+use vp_answer::Status;
 use vp_audit::{fill_matrix, put_list};
 use vp_compile::{Compiled, compile};
 use vp_count::table_words;
@@ -49,7 +49,8 @@ impl Model for CompileJob {
 
 impl CompileJob {
     ghost use Rattle.std.specs.Prelude.{◌≡◌, ◌*◌, ◌≤◌, IfOk, length};
-    ghost use Rattle.vp_answer.specs.Asking.{PutsOrAsks};
+    ghost use Rattle.vp_answer.specs.Answers.{done};
+    ghost use Rattle.vp_answer.specs.Outcome.{Served};
     ghost use Rattle.vp_io.specs.Puts.{Puts};
     ghost use Rattle.vp_text.specs.Written.{written};
     ghost use Rattle.vp_run.specs.Compile.{IsCompiled, IsPooled, class_number, compile_lines, compile_words, limit, said_lines};
@@ -77,16 +78,16 @@ impl CompileJob {
         table_words(self.table.deck) + 4 * classes + classes * self.pool.rules().len()
     }
 
-    /// Puts the list that is made of the pool, behind the numbers that are said of it. It is made before anything is put:
+    /// Writes the list that is made of the pool, behind the numbers that are said of it. It is made before anything is put:
     /// where there is no memory for the places of its exceptions, nothing is.
-    pub(crate) fn put<K: Sink>(
+    pub(crate) fn write<K: Sink>(
         &self,
         alloc: Global,
         region: &mut Region,
         sink: &mut K,
-    ) -> Result<(), PutStop>
+    ) -> Status
         requires { compile_words self.now ≤ region.old }
-        ensures puts { PutsOrAsks (K.told sink.old) (K.told sink.new) result (written (compile_lines self.now)) }
+        ensures served { Served (done (written (compile_lines self.now))) (K.told sink.old) (K.told sink.new) result }
         ensures same { region.new ≡ region.old }
     {
         let classes = self.classes as usize;
@@ -100,11 +101,11 @@ impl CompileJob {
         let game = Game::of(&self.table, self.coin, words);
         let Ok(compiled) = self.compiled::<Brand>(alloc, &game, heads, cells, owner, Blank::new(1))
         else {
-            return Err(PutStop::NoMemory);
+            return Status::NoMemory;
         };
         match self.put_compiled(&game, &compiled, sink) {
-            Ok(()) => Ok(()),
-            Err(WriteFault) => Err(PutStop::WriteFault),
+            Ok(()) => Status::Done,
+            Err(WriteFault) => Status::WriteFault,
         }
     }
 

@@ -3,12 +3,13 @@
 ghost use Rattle.std.specs.Prelude.{◌≡◌, ◌≤◌, length};
 ghost use Rattle.vp_loggram.specs.Logs.{IsLog};
 ghost use Rattle.vp_pay.specs.Table.{IsTable};
-ghost use Rattle.vp_run.specs.Answer.{certify_job, check_read, deal_job, job_of, log_read, read_as, replay_read, meter_job, audit_job, multi_job, play_job, compile_job};
+ghost use Rattle.vp_run.specs.Answer.{certify_job, check_read, deal_job, job_of, log_read, read_as, replay_read, meter_job, audit_job, multi_job, play_job, compile_job, sessions_job};
 ghost use Rattle.vp_run.specs.Audit.{audit_input};
 ghost use Rattle.vp_run.specs.Certify.{certify_input};
 ghost use Rattle.vp_run.specs.Commands.{InRange};
 ghost use Rattle.vp_run.specs.Deal.{deal_input};
 ghost use Rattle.vp_run.specs.Replay.{replay_input};
+ghost use Rattle.vp_run.specs.Sessions.{sessions_input};
 ghost use Rattle.vp_run.specs.Meter.{meter_input};
 ghost use Rattle.vp_run.specs.Multi.{multi_input};
 ghost use Rattle.vp_run.specs.Play.{play_input};
@@ -23,9 +24,10 @@ use crate::deal::{DealJob, read_deal_input};
 use crate::meter::{MeterJob, read_meter_input};
 use crate::multi::MultiJob;
 use crate::play::PlayJob;
-use crate::replay::{ReplayJob, first_break, read_replay_input, rule_of as law_of};
+use crate::replay::{ReplayJob, first_break, read_replay_input, stop_of};
+use crate::sessions::{SessionsJob, read_sessions_input};
 use std::alloc::Global;
-use vp_answer::{PutStop, Stop, Work};
+use vp_answer::{Status, Stop, Work};
 use vp_check::{Checked, Finding, check};
 use vp_io::{Sink, WriteFault};
 use vp_loggram::Log;
@@ -40,6 +42,7 @@ pub enum Job<'a> {
     Audit(AuditJob<'a>),
     Checked(Checked),
     Replay(ReplayJob<'a>),
+    Sessions(SessionsJob<'a>),
     Meter(MeterJob),
     Multi(MultiJob),
     Play(PlayJob),
@@ -47,14 +50,14 @@ pub enum Job<'a> {
 }
 
 impl<'a> Work for Job<'a> {
-    ghost use Rattle.vp_run.specs.Answer.{job_text};
+    ghost use Rattle.vp_run.specs.Answer.{job_answer};
     ghost use Rattle.vp_run.specs.Memory.{job_alone, job_words};
 
     ghost room = { job_words };
 
     ghost alone = { job_alone };
 
-    ghost text = { job_text };
+    ghost answer = { job_answer };
 
     fn words(&self) -> usize {
         match self {
@@ -63,6 +66,7 @@ impl<'a> Work for Job<'a> {
             Job::Audit(job) => job.words(),
             Job::Checked(_) => 0,
             Job::Replay(job) => job.words(),
+            Job::Sessions(job) => job.words(),
             Job::Meter(job) => job.words(),
             Job::Multi(job) => job.words(),
             Job::Play(job) => job.words(),
@@ -79,22 +83,18 @@ impl<'a> Work for Job<'a> {
             Job::Replay(job) => job.put(region, sink),
             Job::Meter(job) => job.put(region, sink),
             Job::Multi(job) => job.put(region, sink),
-            Job::Play(_) | Job::Compile(_) => unreachable!(),
+            Job::Sessions(_) | Job::Play(_) | Job::Compile(_) => unreachable!(),
         }
     }
 
-    fn put_asking<K: Sink>(
-        &self,
-        alloc: Global,
-        region: &mut Region,
-        sink: &mut K,
-    ) -> Result<(), PutStop> {
+    fn write<K: Sink>(&self, alloc: Global, region: &mut Region, sink: &mut K) -> Status {
         match self {
-            Job::Play(job) => job.put(alloc, region, sink),
-            Job::Compile(job) => job.put(alloc, region, sink),
+            Job::Sessions(job) => job.write(alloc, region, sink),
+            Job::Play(job) => job.write(alloc, region, sink),
+            Job::Compile(job) => job.write(alloc, region, sink),
             _ => match self.put(region, sink) {
-                Ok(()) => Ok(()),
-                Err(WriteFault) => Err(PutStop::WriteFault),
+                Ok(()) => Status::Done,
+                Err(WriteFault) => Status::WriteFault,
             },
         }
     }
@@ -112,6 +112,7 @@ pub(crate) fn job_of(task: Task, bytes: &[u8]) -> Result<Job<'_>, Stop>
         Task::Audit(coin) => audit_job(coin, bytes),
         Task::Check { from, count } => check_job(check(bytes, from, count)),
         Task::Replay => replay_job(bytes),
+        Task::Sessions => sessions_job(bytes),
         Task::Meter { coin, line, lo, hi } => meter_job(coin, &line, lo, hi, bytes),
         Task::Multi { coin, hands } => multi_job(coin, hands, bytes),
         Task::Play { coin, seed, games } => play_job(coin, seed, games, bytes),
@@ -243,11 +244,16 @@ fn lawful_job<'a>(table: PayTable, log: Log<'a>) -> Result<Job<'a>, Stop>
 {
     match first_break(&table, &log) {
         None => Ok(Job::Replay(ReplayJob::new(table, log))),
-        Some(broken) => Err(Stop::Finding {
-            at: broken.game,
-            rule: law_of(broken.rule),
-            said: u128::from(broken.said),
-            due: u128::from(broken.due),
-        }),
+        Some(broken) => Err(stop_of(broken)),
+    }
+}
+
+fn sessions_job(bytes: &[u8]) -> Result<Job<'_>, Stop>
+    requires limit { length bytes.now ≤ 67108864 }
+    ensures { result ≡ read_as sessions_job (sessions_input bytes.now) }
+{
+    match read_sessions_input(bytes) {
+        Ok((table, csv)) => Ok(Job::Sessions(SessionsJob::new(table, csv))),
+        Err(refused) => Err(Stop::Refused { line: refused.line }),
     }
 }

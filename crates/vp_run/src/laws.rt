@@ -7,6 +7,8 @@ ghost use Rattle.vp_run.specs.Commands.{CommandsAreSpelled};
 ghost use Rattle.vp_run.specs.Deal.{DealInputsAreRead};
 ghost use Rattle.vp_run.specs.Replay.{ReplayInputsAreRead};
 ghost use Rattle.vp_run.specs.Replayed.{ReplaysTellCosts};
+ghost use Rattle.vp_run.specs.Sessions.{SessionsInputsAreRead};
+ghost use Rattle.vp_run.specs.SessionsTold.{SessionsAreApart, SessionsAreReplayed};
 ghost use Rattle.vp_run.specs.CheckedInParts.{PartsTellEveryDeal, PartsTellWalkedDeals};
 ghost use Rattle.vp_run.specs.EveryDeal.{CertificatesAreChecked, CertificatesTellEveryDeal, ChecksTellEveryDeal, ChecksTellWalkedDeals, DealsPrintBestHolds, MetersAreTold};
 ghost use Rattle.vp_run.specs.Meter.{MeterInputsAreRead};
@@ -79,6 +81,26 @@ pub fn replay_inputs_are_read()
 /// that stands there and the number due.
 pub fn replays_tell_costs()
     ensures { ReplaysTellCosts }
+{}
+
+/// What `sessions` takes for its input: a valid pay table stands at its front, and all bytes behind the line feed of its
+/// last line are the CSV text. Every other input is refused, exactly at the refused line of a pay table.
+pub fn sessions_inputs_are_read()
+    ensures { SessionsInputsAreRead }
+{}
+
+/// The answer of `sessions` to each pay table and CSV text that it takes. Where each record keeps its rule, it is the lines
+/// of each session, in the order of the records that open them, and then how many sessions there are and how many are
+/// unlawful; the lines of a session are what `replay` answers to the pay table and its log alone, and it is unlawful where
+/// that is a finding. Else it names the first record that breaks its rule.
+pub fn sessions_are_replayed()
+    ensures { SessionsAreReplayed }
+{}
+
+/// No session changes what is told of another: each session has its lines in the answer of `sessions`, and these depend on
+/// the pay table and on its own records alone, whatever the other sessions' records are and wherever they stand.
+pub fn sessions_do_not_mix()
+    ensures { SessionsAreApart }
 {}
 
 /// The answer of `play` to each pay table that it takes prints the numbers of a log that is in the grammar of logs and

@@ -15,6 +15,7 @@ mod multi;
 mod play;
 mod replay;
 mod serve;
+mod sessions;
 mod tables;
 mod top;
 
@@ -26,7 +27,8 @@ pub use laws::{
     compiled_lists_are_audited, compiled_lists_lose_little, deal_inputs_are_read,
     deals_print_best_holds, meter_inputs_are_read, meters_are_told, multi_inputs_are_read,
     multis_print_moments, play_inputs_are_read, plays_are_replayed, replay_inputs_are_read,
-    replays_tell_costs, usage_is_for_no_command,
+    replays_tell_costs, sessions_are_replayed, sessions_do_not_mix, sessions_inputs_are_read,
+    usage_is_for_no_command,
 };
 pub use serve::{in_region, region_words, served};
 pub use top::{vpoker, vpoker_in_blocks};

@@ -7,7 +7,7 @@ ghost use Rattle.vp_run.specs.Play.{played_lines};
 
 use std::alloc::{AllocError, Global};
 use std::marker::Model;
-use vp_answer::PutStop;
+use vp_answer::Status;
 use vp_count::table_words;
 use vp_gen::make_log;
 use vp_hold::Game;
@@ -40,7 +40,8 @@ impl Model for PlayJob {
 
 impl PlayJob {
     ghost use Rattle.std.specs.Prelude.{◌≡◌, ◌+◌, ◌*◌, ◌≤◌, IfOk, None, length};
-    ghost use Rattle.vp_answer.specs.Asking.{PutsOrAsks};
+    ghost use Rattle.vp_answer.specs.Answers.{done};
+    ghost use Rattle.vp_answer.specs.Outcome.{Served};
     ghost use Rattle.vp_count.specs.Table.{first_word};
     ghost use Rattle.vp_loggram.specs.Logs.{IsLog};
     ghost use Rattle.vp_loggram.specs.Spelling.{log_text};
@@ -70,26 +71,26 @@ impl PlayJob {
         (self.table.coins as usize + 1) * table_words(self.table.deck)
     }
 
-    /// Puts the seed, the number of games, and the numbers of the log. The log is made before anything is put: where there
+    /// Writes the seed, the number of games, and the numbers of the log. The log is made before anything is put: where there
     /// is no memory for it, nothing is.
-    pub(crate) fn put<K: Sink>(
+    pub(crate) fn write<K: Sink>(
         &self,
         alloc: Global,
         region: &mut Region,
         sink: &mut K,
-    ) -> Result<(), PutStop>
+    ) -> Status
         requires { (self.now.table.coins + 1) * first_word self.now.table.deck 6 ≤ region.old }
-        ensures puts { PutsOrAsks (K.told sink.old) (K.told sink.new) result (written (play_lines self.now)) }
+        ensures served { Served (done (written (play_lines self.now))) (K.told sink.old) (K.told sink.new) result }
         ensures same { region.new ≡ region.old }
     {
         let mut carver = region.carve();
         let words = carver.take_as_it_is(table_words(self.table.deck)).unwrap();
         let Ok(summary) = self.summary(alloc, words) else {
-            return Err(PutStop::NoMemory);
+            return Status::NoMemory;
         };
         match put_played(self.table.deck, self.seed, self.games, &summary, sink) {
-            Ok(()) => Ok(()),
-            Err(WriteFault) => Err(PutStop::WriteFault),
+            Ok(()) => Status::Done,
+            Err(WriteFault) => Status::WriteFault,
         }
     }
 

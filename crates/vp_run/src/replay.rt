@@ -5,11 +5,11 @@ ghost use Rattle.vp_loggram.specs.Logs.{IsLog};
 ghost use Rattle.vp_pay.specs.Table.{IsTable};
 ghost use Rattle.vp_replay.specs.Rules.{break_in};
 ghost use Rattle.vp_answer.specs.Reads.{Reads};
-ghost use Rattle.vp_run.specs.Replay.{replay_input, rule_of};
+ghost use Rattle.vp_run.specs.Replay.{replay_input, rule_of, stop_of};
 
 use std::marker::{Brand, Model};
 use std::sync::ledger::{Blank, Ledger};
-use vp_answer::Rule;
+use vp_answer::{Rule, Stop};
 use vp_count::table_words;
 use vp_io::{Sink, WriteFault};
 use vp_loggram::Log;
@@ -104,6 +104,18 @@ pub(crate) fn rule_of(rule: LogRule) -> Rule
         LogRule::Draw => Rule::Draw,
         LogRule::Pay => Rule::Pay,
         LogRule::Credits => Rule::Credits,
+    }
+}
+
+/// What a log with a broken law is stopped with.
+pub(crate) fn stop_of(broken: Broken) -> Stop
+    ensures { result ≡ stop_of broken }
+{
+    Stop::Finding {
+        at: broken.game,
+        rule: rule_of(broken.rule),
+        said: u128::from(broken.said),
+        due: u128::from(broken.due),
     }
 }
 

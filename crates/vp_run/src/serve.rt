@@ -29,7 +29,7 @@ pub fn region_words(words: &[&str], bytes: &[u8]) -> usize
 }
 
 /// Whether these words are all the memory that the answer needs beside its input: `served` serves it then. An answer of
-/// `play` or `compile` needs more.
+/// `play`, `compile` or `sessions` needs more.
 #[tactic(auto, unfolding(crate::specs::Memory::in_region))]
 pub fn in_region(words: &[&str], bytes: &[u8]) -> bool
     requires { length bytes.now ≤ 67108864 }
@@ -45,7 +45,7 @@ pub fn in_region(words: &[&str], bytes: &[u8]) -> bool
 fn is_alone(read: &Result<Job<'_>, Stop>) -> bool
     ensures { result ≡ alone_read job_alone read.now }
 {
-    !matches!(read, Ok(Job::Play(_) | Job::Compile(_)))
+    !matches!(read, Ok(Job::Play(_) | Job::Compile(_) | Job::Sessions(_)))
 }
 
 /// Writes the text of the answer to the words and the input, in the memory of the region. It asks for no more: the only

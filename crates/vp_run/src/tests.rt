@@ -10,5 +10,6 @@ mod meter;
 mod multi;
 mod play;
 mod replay;
+mod sessions;
 mod tables;
 mod words;

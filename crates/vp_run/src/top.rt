@@ -4,7 +4,7 @@ ghost use Rattle.std.specs.Prelude.{◌≡◌, [], map, true, false, ℕ, List};
 ghost use Rattle.vp_answer.specs.Answers.{answer_read};
 ghost use Rattle.vp_answer.specs.Closing.{TookNothing};
 ghost use Rattle.vp_answer.specs.Outcome.{Outcome, Unread};
-ghost use Rattle.vp_run.specs.Answer.{answer, job_of, job_text, needs_input, tables_answer, usage};
+ghost use Rattle.vp_run.specs.Answer.{answer, job_answer, job_of, needs_input, tables_answer, usage};
 ghost use Rattle.vp_run.specs.Commands.{InRange};
 
 use crate::command::{Command, Task, command_of};
@@ -96,7 +96,7 @@ fn read_and_answer<S: Source, K: Sink>(
     sink: &mut K,
 ) -> Status
     requires { InRange task }
-    ensures { Outcome (λ (bytes : List ℕ). answer_read job_text (job_of task bytes))
+    ensures { Outcome (λ (bytes : List ℕ). answer_read job_answer (job_of task bytes))
         (S.told source.old)
         (S.told source.new)
         (K.told sink.old)

@@ -1,0 +1,173 @@
+-- What `sessions` answers to a pay table and a CSV text.
+use Rattle.std.proofs.Common.{◌≡◌, ◌<◌, ℕ, zero, suc, Bool, true, false, List, [], ◌∷◌, ◌++◌, refl, sym, ap, subst, ◌∙◌, arith, inl, inr, append-nil, append_assoc, Option, Some, None}
+use Rattle.std.specs.Prelude.{◌↔◌, ◌⊎◌, ◌||◌, Ok, bytes_eq, codes, flat_map, is_some, map}
+use Rattle.std.specs.List.{AllByRecursion}
+use Rattle.std.proofs.lemmas.Grind.{flat_map-append}
+use Rattle.std.proofs.lemmas.Slice.Eq.{bytes_eq-Decides}
+use Rattle.vp_text.specs.Lines.{Word, feed_of}
+use Rattle.vp_text.specs.Sections.{Text, text_of}
+use Rattle.vp_text.specs.Written.{line_of, written}
+use Rattle.vp_text.proofs.Spelled.{text_of-append}
+use Rattle.vp_text.proofs.Writing.{written_read}
+use Rattle.vp_pay.specs.Spelling.{table_text}
+use Rattle.vp_pay.specs.Table.{IsTable}
+use Rattle.vp_pay.specs.Written.{IsReadAgain}
+use Rattle.vp_pay.specs.declared.table.PayTable.{PayTable}
+use Rattle.vp_pay.proofs.Plain.{plain_table}
+use Rattle.vp_loggram.specs.Logs.{IsLog, LogValue}
+use Rattle.vp_loggram.specs.Spelling.{log_text}
+use Rattle.vp_loggram.proofs.Log_laws.{written_again}
+use Rattle.vp_csv.specs.Records.{Record}
+use Rattle.vp_csv.specs.Rules.{knows, names_of, refused_record}
+use Rattle.vp_csv.specs.Sessions.{Session, log_of, own, session_of, sessions_in, sessions_of}
+use Rattle.vp_csv.proofs.Closing.{is_log}
+use Rattle.vp_csv.proofs.Isolation.{apart}
+use Rattle.vp_replay.specs.Rules.{break_in}
+use Rattle.vp_replay.specs.declared.rule.Broken.{Broken}
+use Rattle.vp_answer.specs.Answers.{Answer, answer_read}
+use Rattle.vp_answer.specs.declared.status.Status.TheVariants.{Done, Finding}
+use Rattle.vp_run.specs.Answer.{answer, job_answer, judged_log, read_as, sessions_job}
+use Rattle.vp_run.specs.Commands.{command_of}
+use Rattle.vp_run.specs.Replay.{replay_input}
+use Rattle.vp_run.specs.Sessions.{Mixed, by_record, judged, log_answer, session_text, sessions_answer, sessions_input, sessions_text, status_by, unlawful}
+use Rattle.vp_run.specs.SessionsTold.{AreApart, HasLines, IsReplayedAlone, NamesRecord, SessionsAreApart, SessionsAreReplayed, TellsSessions, games_in, lines_of, log_file}
+use Rattle.vp_run.specs.declared.command.Command.TheVariants.{Over}
+use Rattle.vp_run.specs.declared.command.Task.TheVariants.{Replay, Sessions}
+use Rattle.vp_run.proofs.NoCommand.{answer_as}
+use Rattle.vp_run.proofs.Replays.{inputs_read as replay_inputs_read, replay_as}
+use Rattle.vp_run.proofs.SessionInputs.{inputs_read}
+use Rattle.vp_run.proofs.SessionLines.{last_line, session_lines}
+
+-- ---- a pay table and a log behind it are an input of `replay`
+
+log_lines : (log : LogValue) → IsReadAgain log_text log [] → text_of (feed_of (written (log_text log))).lines ≡ log_text log
+log_lines log again =
+    let s = again.front in
+    ap (λ (bytes : List ℕ). text_of (feed_of bytes).lines) (sym (append-nil (written (log_text log))))
+    ∙ ap text_of s.lines
+    ∙ text_of-append s.front again.left.lines
+    ∙ ap (λ (t : Text). t ++ text_of again.left.lines) s.spelled
+    ∙ ap (λ (t : Text). log_text log ++ t) again.rest
+    ∙ append-nil (log_text log)
+
+file_lines : (table : PayTable) (log : LogValue) → IsTable table → IsLog table.deck log → text_of (feed_of (log_file table log)).lines ≡ table_text table ++ log_text log
+file_lines table log rules is =
+    ap (λ (bytes : List ℕ). text_of (feed_of bytes).lines) (flat_map-append line_of (table_text table) (log_text log))
+    ∙ written_read (table_text table) (written (log_text log)) (plain_table table rules)
+    ∙ ap (λ (t : Text). table_text table ++ t) (log_lines log (written_again table.deck log [] rules.known_deck is))
+
+file_says : (table : PayTable) (log : LogValue) → IsTable table → IsLog table.deck log → replay_input (log_file table log) ≡ Ok (table, log)
+file_says table log rules is = (replay_inputs_read.spelled (log_file table log) (table, log)).1 (log, ((rules, is), refl, file_lines table log rules is), refl)
+
+judged_as : (table : PayTable) (log : LogValue) (o : Option Broken) → answer_read job_answer (judged_log table log o) ≡ judged table log o
+judged_as table log None = refl
+judged_as table log (Some b) = refl
+
+-- `replay` answers it so
+replayed : (table : PayTable) (log : LogValue) (words : List Word) → IsTable table → IsLog table.deck log → command_of words ≡ Some (Over Replay)
+    → answer words (log_file table log) ≡ log_answer table log
+replayed table log words rules is asks = sym (replay_as words (log_file table log) table log asks (file_says table log rules is)) ∙ judged_as table log (break_in table log)
+
+finding_is : (table : PayTable) (log : LogValue) (o : Option Broken) → is_some o ≡ true ↔ ((judged table log o).status ≡ Finding)
+finding_is table log None = (λ e. absurd cc, λ e. absurd cc)
+finding_is table log (Some b) = (λ e. refl, λ e. refl)
+
+alone : (table : PayTable) (s : Session) → IsTable table → IsLog table.deck s.log → IsReplayedAlone table s
+alone table s rules is = record {
+  log = is;
+  lines = λ words asks. session_lines table s ∙ ap (λ (a : Answer). line_of (codes "session" ∷ s.name ∷ []) ++ a.text) (sym (replayed table s.log words rules is asks));
+  judged = λ words asks.
+      subst (λ (a : Answer). is_some (break_in table s.log) ≡ true ↔ (a.status ≡ Finding)) (sym (replayed table s.log words rules is asks)) (finding_is table s.log (break_in table s.log));
+}
+
+all_alone : (table : PayTable) (rs : List Record) (names : List Word) → IsTable table → AllByRecursion (IsReplayedAlone table) (map (session_of table.deck rs) names)
+unfolding session_of
+all_alone table rs [] rules = tt
+all_alone table rs (name ∷ names) rules = (alone table (session_of table.deck rs name) rules (is_log table.deck (own name rs)), all_alone table rs names rules)
+
+-- ---- the answer
+
+sessions_as : (words : List Word) (bytes : List ℕ) (table : PayTable) (csv : List ℕ) → command_of words ≡ Some (Over Sessions) → sessions_input bytes ≡ Ok (table, csv)
+    → sessions_answer (record { table = table; csv = csv }) ≡ answer words bytes
+sessions_as words bytes table csv is says = ap (λ r. answer_read job_answer (read_as sessions_job r)) (sym says) ∙ answer_as words (Some (Over Sessions)) bytes is
+
+finding_counts : (count : ℕ) → status_by count ≡ Finding ↔ 0 < count
+finding_counts zero = (λ e. absurd cc, λ low. absurd (omega (arith, low)))
+finding_counts (suc count) = (λ e. omega arith, λ low. refl)
+
+done_counts : (count : ℕ) → status_by count ≡ Done ↔ (count ≡ 0)
+done_counts zero = (λ e. refl, λ e. refl)
+done_counts (suc count) = (λ e. absurd cc, λ e. absurd (omega (arith, e)))
+
+by_first : (table : PayTable) (csv : List ℕ) (due : Answer) (o : Option ℕ) → IsTable table → refused_record table.deck csv ≡ o → by_record (record { table = table; csv = csv }) o ≡ due
+    → TellsSessions table csv due ⊎ NamesRecord table csv due
+by_first table csv due (Some place) rules first is = inr (record { place = place; first = first; named = sym is })
+by_first table csv due None rules kept is =
+    let count = unlawful table (sessions_of table.deck csv) in
+    inl (record {
+      kept = kept;
+      text = ap (λ (a : Answer). a.text) (sym is);
+      finding = subst (λ (a : Answer). a.status ≡ Finding ↔ 0 < count) is (finding_counts count);
+      lawful = subst (λ (a : Answer). a.status ≡ Done ↔ (count ≡ 0)) is (done_counts count);
+      alone = each_alone;
+    })
+  where
+    unfolding sessions_of sessions_in
+    each_alone : AllByRecursion (IsReplayedAlone table) (sessions_of table.deck csv)
+    each_alone = all_alone table (games_in csv) (names_of (games_in csv)) rules
+
+answer_is : (m : Mixed) → by_record m (refused_record m.table.deck m.csv) ≡ sessions_answer m
+unfolding sessions_answer
+answer_is m = refl
+
+pub sessions_replayed : SessionsAreReplayed
+sessions_replayed words bytes table csv is says =
+    let rules = (inputs_read.spelled bytes (table, csv)).0 says in
+    by_first table csv (answer words bytes) (refused_record table.deck csv) rules.table refl
+    (answer_is (record { table = table; csv = csv }) ∙ sessions_as words bytes table csv is says)
+
+-- ---- no session changes another
+
+has_more : (front text lines : List ℕ) → HasLines text lines → HasLines (front ++ text) lines
+has_more front text lines h = record {
+  front = front ++ h.front;
+  behind = h.behind;
+  is = ap (λ (t : List ℕ). front ++ t) h.is ∙ sym (append_assoc front h.front (lines ++ h.behind));
+}
+
+has_in_front : (text more lines : List ℕ) → HasLines text lines → HasLines (text ++ more) lines
+has_in_front text more lines h = record {
+  front = h.front;
+  behind = h.behind ++ more;
+  is = ap (λ (t : List ℕ). t ++ more) h.is ∙ append_assoc h.front (lines ++ h.behind) more ∙ ap (λ (t : List ℕ). h.front ++ t) (append_assoc lines h.behind more);
+}
+
+stands_among : (text : Word → List ℕ) (name : Word) (names : List Word) → knows name names ≡ true → HasLines (flat_map text names) (text name)
+stands_among text name [] among = absurd cc
+stands_among text name (x ∷ xs) among = by_test (bytes_eq x name) refl
+  where
+    by_test : (b : Bool) → bytes_eq x name ≡ b → HasLines (text x ++ flat_map text xs) (text name)
+    by_test true is = record { front = []; behind = flat_map text xs; is = ap (λ (w : Word). text w ++ flat_map text xs) ((bytes_eq-Decides x name).0 is) }
+    by_test false other = has_more (text x) (flat_map text xs) (text name) (stands_among text name xs (ap (λ (b : Bool). b || knows name xs) (sym other) ∙ among))
+
+mapped_text : (table : PayTable) (rs : List Record) (names : List Word)
+    → flat_map (session_text table) (map (session_of table.deck rs) names) ≡ flat_map (λ name. session_text table (session_of table.deck rs name)) names
+mapped_text table rs [] = refl
+mapped_text table rs (name ∷ names) = ap (λ (t : List ℕ). session_text table (session_of table.deck rs name) ++ t) (mapped_text table rs names)
+
+sessions_hold : (table : PayTable) (csv : List ℕ) (name : Word) → knows name (names_of (games_in csv)) ≡ true → HasLines (sessions_text table (sessions_of table.deck csv)) (lines_of table csv name)
+unfolding sessions_text sessions_of sessions_in
+sessions_hold table csv name among =
+    let rs = games_in csv in
+    has_in_front (flat_map (session_text table) (map (session_of table.deck rs) (names_of rs))) (last_line table (map (session_of table.deck rs) (names_of rs))) (lines_of table csv name)
+    (subst (λ (t : List ℕ). HasLines t (lines_of table csv name)) (sym (mapped_text table rs (names_of rs)))
+    (stands_among (λ n. session_text table (session_of table.deck rs n)) name (names_of rs) among))
+
+pub sessions_apart : SessionsAreApart
+sessions_apart words asks = record {
+  told = λ bytes table csv name says kept among.
+      subst (λ (a : Answer). HasLines a.text (lines_of table csv name))
+      (ap (by_record (record { table = table; csv = csv })) (sym kept) ∙ answer_is (record { table = table; csv = csv }) ∙ sessions_as words bytes table csv asks says)
+      (sessions_hold table csv name among);
+  same = λ table csv other name records. ap (session_text table) (apart table.deck (games_in csv) (games_in other) name records);
+}

@@ -1,0 +1,93 @@
+-- `sessions`: what its input says, what is told of each session, and what is answered.
+use Rattle.std.specs.Prelude.{◌≡◌, ◌==◌, ℕ, Bool, List, [], ◌∷◌, ◌++◌, filter, flat_map, length, Option, Some, None, is_some, Result, Ok, codes, if◌then◌else◌}
+use Rattle.std.specs.Fmt.{decimal}
+use Rattle.vp_text.specs.Lines.{Feed, feed_of, rest_of}
+use Rattle.vp_text.specs.Reading.{◌>>=◌}
+use Rattle.vp_text.specs.Sections.{Refuses, Starts}
+use Rattle.vp_text.specs.Written.{line_of, written}
+use Rattle.vp_pay.specs.Sections.{table_at}
+use Rattle.vp_pay.specs.Spelling.{table_text}
+use Rattle.vp_pay.specs.Table.{IsTable}
+use Rattle.vp_pay.specs.declared.table.PayTable.{PayTable}
+use Rattle.vp_loggram.specs.Logs.{LogValue}
+use Rattle.vp_csv.specs.Rules.{refused_record}
+use Rattle.vp_csv.specs.Sessions.{Session, sessions_of}
+use Rattle.vp_replay.specs.Rules.{break_in}
+use Rattle.vp_replay.specs.Summaries.{replay_lines}
+use Rattle.vp_replay.specs.declared.rule.Broken.{Broken}
+use Rattle.vp_answer.specs.Answers.{Answer, done, finding, record_refusal}
+use Rattle.vp_answer.specs.Inputs.{AreRead}
+use Rattle.vp_answer.specs.declared.status.Status.{Status}
+use Rattle.vp_answer.specs.declared.status.Status.TheVariants.{Done, Finding}
+use Rattle.vp_run.specs.Replay.{rule_of}
+
+-- what an input of `sessions` says: a pay table, and all bytes behind the line feed of its last line, which are the CSV text; or the line
+-- where the table is refused
+abbrev pub sessions_input : List ℕ → Result (PayTable × List ℕ) ℕ
+sessions_input bytes = do
+  read ← table_at (feed_of bytes)
+  Ok (read.0, rest_of read.1)
+
+-- a pay table, and the CSV text behind it
+pub record Mixed : Type 0 where
+  pub table : PayTable
+  pub csv : List ℕ
+
+-- ---- one session
+
+-- what `replay` answers to a log whose first break is this
+abbrev pub judged : PayTable → LogValue → Option Broken → Answer
+judged table log None = done (written (replay_lines table log))
+judged table log (Some b) = finding b.game (rule_of b.rule) b.said b.due
+
+-- what `replay` answers to a log: what its holds cost and its numbers, or its first broken law
+abbrev pub log_answer : PayTable → LogValue → Answer
+log_answer table log = judged table log (break_in table log)
+
+-- the lines of a session: its name, and what `replay` answers to its log
+unfoldable pub session_text : PayTable → Session → List ℕ
+session_text table s = line_of (codes "session" ∷ s.name ∷ []) ++ (log_answer table s.log).text
+
+-- its log breaks a law
+abbrev pub is_unlawful : PayTable → Session → Bool
+is_unlawful table s = is_some (break_in table s.log)
+
+-- ---- all sessions
+
+-- how many sessions break a law
+unfoldable pub unlawful : PayTable → List Session → ℕ
+unlawful table sessions = length (filter (is_unlawful table) sessions)
+
+-- the lines of each session, in their order, and then how many there are and how many are unlawful
+unfoldable pub sessions_text : PayTable → List Session → List ℕ
+sessions_text table sessions =
+    flat_map (session_text table) sessions ++ line_of (codes "sessions" ∷ decimal (length sessions) ∷ decimal (unlawful table sessions) ∷ [])
+
+-- an unlawful session is a finding, so many being unlawful
+abbrev pub status_by : ℕ → Status
+status_by count = if count == 0 then Done else Finding
+
+abbrev pub found : PayTable → List Session → Answer
+found table sessions = record { status = status_by (unlawful table sessions); text = sessions_text table sessions }
+
+-- the answer where this record is the first that breaks its rule
+abbrev pub by_record : Mixed → Option ℕ → Answer
+by_record m (Some place) = record_refusal place
+by_record m None = found m.table (sessions_of m.table.deck m.csv)
+
+-- what `sessions` answers to a pay table and a CSV text
+unfoldable pub sessions_answer : Mixed → Answer
+sessions_answer m = by_record m (refused_record m.table.deck m.csv)
+
+-- ---- its input
+
+-- a valid table stands at the front, and these are the bytes behind the line feed of its last line
+pub record IsMixed (bytes : List ℕ) (read : PayTable × List ℕ) : Type 0 where
+  pub table : IsTable read.0
+  pub left : Feed
+  pub front : Starts table_text (feed_of bytes) read.0 left
+  pub csv : read.1 ≡ rest_of left
+
+-- a pay table, whatever follows; it is refused at the first line with which the lines so far begin no table, or past the end
+abbrev pub SessionsInputsAreRead : Type 0
+SessionsInputsAreRead = AreRead sessions_input IsMixed (λ bytes line. Refuses table_text IsTable (feed_of bytes) line)

@@ -1,0 +1,222 @@
+//! `sessions`: the lines of `replay` for each log in a CSV text of many.
+
+ghost use Rattle.std.specs.Prelude.{◌≡◌, ◌<◌, ◌≤◌, IfOk, length};
+ghost use Rattle.vp_card.specs.Cards.{IsDeck};
+ghost use Rattle.vp_io.specs.Puts.{Puts};
+ghost use Rattle.vp_loggram.specs.Logs.{IsLog};
+ghost use Rattle.vp_pay.specs.Table.{IsTable};
+ghost use Rattle.vp_replay.specs.Rules.{break_in};
+ghost use Rattle.vp_csv.specs.Sessions.{session_at};
+ghost use Rattle.vp_answer.specs.Answers.{record_refusal};
+ghost use Rattle.vp_answer.specs.Outcome.{Served};
+ghost use Rattle.vp_answer.specs.Reads.{Reads};
+ghost use Rattle.vp_run.specs.Sessions.{log_answer, session_text, sessions_input, sessions_text, status_by, unlawful};
+
+use crate::replay::{first_break, stop_of};
+use std::alloc::Global;
+use std::marker::Model;
+use vp_answer::{Status, Stop};
+use vp_count::table_words;
+use vp_csv::{CsvStop, Sessions};
+use vp_io::{Sink, WriteFault};
+use vp_lines::{Word, put_words};
+use vp_loggram::Log;
+use vp_pay::{Name, PayTable};
+use vp_region::Region;
+use vp_replay::{Broken, Games, put_replay};
+use vp_text::{Lines, Refused};
+
+/// A pay table, and the CSV text behind it.
+#[derive(Drop)]
+pub struct SessionsJob<'a> {
+    table: PayTable,
+    csv: &'a [u8],
+}
+
+impl<'a> Model for SessionsJob<'a> {
+    ghost use Rattle.vp_pay.specs.Table.{IsTable};
+    ghost use Rattle.vp_run.specs.Sessions.{Mixed};
+
+    ghost Value = { Mixed };
+
+    ghost view = { λ j. record { table = j.table; csv = j.csv.now } };
+
+    ghost invariant = { λ j. IsTable j.table };
+}
+
+impl<'a> SessionsJob<'a> {
+    ghost use Rattle.std.specs.Prelude.{◌≡◌, ◌≤◌, ◌*◌};
+    ghost use Rattle.vp_answer.specs.Outcome.{Served};
+    ghost use Rattle.vp_count.specs.Table.{first_word};
+    ghost use Rattle.vp_csv.specs.Sessions.{Sorted, sessions_of};
+    ghost use Rattle.vp_pay.specs.Table.{IsTable};
+    ghost use Rattle.vp_run.specs.Sessions.{found, sessions_answer};
+
+    pub(crate) fn new(table: PayTable, csv: &'a [u8]) -> SessionsJob<'a>
+        requires { IsTable table }
+        ensures { result ≡ record { table = table; csv = csv.now } }
+    {
+        SessionsJob { table, csv }
+    }
+
+    /// How many words of 64 bits it needs: a table of sums for each bet.
+    #[tactic(auto, using(crate::proofs::ReplayWords::few_words))]
+    pub(crate) fn words(&self) -> usize
+        ensures { result ≡ self.now.table.coins * first_word self.now.table.deck 6 }
+    {
+        self.table.coins as usize * table_words(self.table.deck)
+    }
+
+    /// Writes the lines of the sessions, or the line of the first record that breaks its rule. All records are read
+    /// before anything is put: where there is no memory for the logs, nothing is.
+    #[tactic(auto, unfolding(crate::specs::Sessions::sessions_answer))]
+    pub(crate) fn write<K: Sink>(
+        &self,
+        alloc: Global,
+        region: &mut Region,
+        sink: &mut K,
+    ) -> Status
+        requires { self.now.table.coins * first_word self.now.table.deck 6 ≤ region.old }
+        ensures served { Served (sessions_answer self.now) (K.told sink.old) (K.told sink.new) result }
+        ensures same { region.new ≡ region.old }
+    {
+        match Sessions::read(alloc, self.csv, self.table.deck) {
+            Ok(sessions) => self.write_sessions(&sessions, region, sink),
+            Err(CsvStop::Record { place }) => write_refused(place, sink),
+            Err(CsvStop::NoMemory) => Status::NoMemory,
+        }
+    }
+
+    /// Writes the lines of the sessions.
+    fn write_sessions<K: Sink>(
+        &self,
+        sessions: &Sessions,
+        region: &mut Region,
+        sink: &mut K,
+    ) -> Status
+        requires room { self.now.table.coins * first_word self.now.table.deck 6 ≤ region.old }
+        requires sessions { sessions.now ≡ record { deck = self.now.table.deck; sessions = sessions_of self.now.table.deck self.now.csv } }
+        ensures served { Served (found self.now.table (sessions_of self.now.table.deck self.now.csv)) (K.told sink.old) (K.told sink.new) result }
+        ensures same { region.new ≡ region.old }
+    {
+        let mut carver = region.carve();
+        let words = carver.take_as_it_is(self.words()).unwrap();
+        let games = Games::of(&self.table, words);
+        match put_sessions(&games, sessions, sink) {
+            Ok(unlawful) => status_by(unlawful),
+            Err(WriteFault) => Status::WriteFault,
+        }
+    }
+}
+
+/// An unlawful session is a finding, so many being unlawful.
+fn status_by(count: u32) -> Status
+    ensures { result ≡ status_by count }
+{
+    if count == 0 {
+        Status::Done
+    } else {
+        Status::Finding
+    }
+}
+
+/// Writes the line of the first record that breaks its rule.
+fn write_refused<K: Sink>(place: u32, sink: &mut K) -> Status
+    ensures { Served (record_refusal place) (K.told sink.old) (K.told sink.new) result }
+{
+    match (Stop::Record { place }).put(sink) {
+        Ok(()) => Status::Refused,
+        Err(WriteFault) => Status::WriteFault,
+    }
+}
+
+/// Puts the lines of each session, and behind them how many there are and how many are unlawful, which is answered.
+fn put_sessions<K: Sink>(
+    games: &Games,
+    sessions: &Sessions,
+    sink: &mut K,
+) -> Result<u32, WriteFault>
+    requires { sessions.now.deck ≡ games.now.deck }
+    ensures puts { Puts (K.told sink.old) (K.told sink.new) result (sessions_text games.now sessions.now.sessions) }
+    ensures unlawful { IfOk result (λ count. count ≡ unlawful games.now sessions.now.sessions) }
+{
+    let count = sessions.count();
+    let mut unlawful = 0;
+    for place in 0..count {
+        let log = log_at(sessions, place, games.table().deck);
+        let broken = first_break(games.table(), &log);
+        put_session(games, &sessions.name(place), &log, broken, sink)?;
+        unlawful += u32::from(broken.is_some());
+    }
+    put_count(count, unlawful, sink)?;
+    Ok(unlawful)
+}
+
+/// Puts how many sessions there are, and how many are unlawful.
+fn put_count<K: Sink>(count: u32, unlawful: u32, sink: &mut K) -> Result<(), WriteFault>
+    ensures { Puts (K.told sink.old) (K.told sink.new) result (line_of (codes "sessions" ∷ decimal count ∷ decimal unlawful ∷ [])) }
+{
+    let words = [
+        Word::Text(b"sessions"),
+        Word::Number(count as u128),
+        Word::Number(unlawful as u128),
+    ];
+    put_words(&words, sink)
+}
+
+/// The log of a session, with cards of a deck of so many.
+fn log_at<'a>(sessions: &'a Sessions, place: u32, deck: u8) -> Log<'a>
+    requires place { place < length sessions.now.sessions }
+    requires deck { sessions.now.deck ≡ deck }
+    requires known { IsDeck deck }
+    ensures log { result ≡ (session_at sessions.now place).log }
+    ensures grammar { IsLog deck result }
+{
+    let mut lines = Lines::new(sessions.log(place));
+    Log::read(&mut lines, deck).unwrap()
+}
+
+/// Puts the lines of a session, whose log has this for its first break.
+#[tactic(auto, unfolding(crate::specs::Sessions::session_text))]
+fn put_session<K: Sink>(
+    games: &Games,
+    name: &Name,
+    log: &Log,
+    broken: Option<Broken>,
+    sink: &mut K,
+) -> Result<(), WriteFault>
+    requires log { IsLog games.now.deck log.now }
+    requires broken { broken ≡ break_in games.now log.now }
+    ensures { Puts (K.told sink.old) (K.told sink.new) result (session_text games.now (record { name = name.now; log = log.now })) }
+{
+    put_words(&[Word::Text(b"session"), Word::Text(name.text())], sink)?;
+    put_log(games, log, broken, sink)
+}
+
+/// Puts what `replay` answers to a log, which has this for its first break.
+fn put_log<K: Sink>(
+    games: &Games,
+    log: &Log,
+    broken: Option<Broken>,
+    sink: &mut K,
+) -> Result<(), WriteFault>
+    requires log { IsLog games.now.deck log.now }
+    requires broken { broken ≡ break_in games.now log.now }
+    ensures { Puts (K.told sink.old) (K.told sink.new) result (log_answer games.now log.now).text }
+{
+    match broken {
+        None => put_replay(games, log, sink),
+        Some(broken) => stop_of(broken).put(sink),
+    }
+}
+
+/// The pay table that the bytes begin with, and all bytes behind the line feed of its last line.
+pub(crate) fn read_sessions_input(bytes: &[u8]) -> Result<(PayTable, &[u8]), Refused>
+    requires { length bytes.now ≤ 67108864 }
+    ensures says { Reads (λ read. (read.0, read.1.now)) result (sessions_input bytes.now) }
+    ensures table { IfOk result (λ read. IsTable read.0) }
+{
+    let mut lines = Lines::new(bytes);
+    let table = PayTable::read(&mut lines)?;
+    Ok((table, lines.rest()))
+}
