@@ -17,9 +17,10 @@ extern "C" {
 /* How a call ends. The codes are the exit statuses of the program (docs/FORMATS.md). */
 enum {
     VPOKER_DONE = 0,         /* the room has the whole text */
-    VPOKER_FINDING = 1,      /* the same; the input breaks a rule that it claims to keep, and the text names it */
+    VPOKER_FINDING = 1,      /* the same; the input breaks a rule that it claims to keep, and the text names it; of sessions,
+                                some session breaks a law */
     VPOKER_USAGE = 2,        /* the same; the words are no command, and the text is "usage" and a line feed */
-    VPOKER_REFUSED = 3,      /* the same; the input is refused, and the text names the line */
+    VPOKER_REFUSED = 3,      /* the same; the input is refused, and the text names the line, or the record of CSV text */
                              /* 4 comes only from the program: an input in memory has no read that fails */
     VPOKER_ROOM = 5,         /* the room is smaller than the text, and full of its beginning */
     VPOKER_NO_MEMORY = 6,    /* there was no memory; nothing was written */
@@ -44,7 +45,7 @@ enum {
  * others *taken is 0. What is behind the first *taken bytes of the room is as it was. No zero byte ends the text.
  *
  * How much room: 4 KiB for deal, check, multi and tables, 16 KiB for audit, 8000000 bytes for certify, more for meter; the
- * text of replay grows with the log. These are not proved; where a room was too small, call again with more. The answer
+ * texts of replay and sessions grow with the logs. These are not proved; where a room was too small, call again with more. The answer
  * depends on nothing but the words and the input.
  *
  * A caller owes that
@@ -58,7 +59,8 @@ enum {
  *
  * The words, the input and the room stay the caller's. It keeps no pointer, no memory and no state between calls, so
  * threads may call it at the same time, each with a room of its own. During a call it takes memory from malloc: a copy of
- * the input, room_len bytes, and what the command takes (22 MB for deal, certify and audit, 110 MB at most, for replay).
+ * the input, room_len bytes, and what the command takes (22 MB for deal, certify and audit, 110 MB at most, for replay;
+ * for sessions as much, and its logs, which are somewhat longer than the CSV text).
  */
 uint8_t vpoker_answer(const uint8_t *words, size_t words_len, const uint8_t *input, size_t input_len, uint8_t *room,
                       size_t room_len, size_t *taken);
