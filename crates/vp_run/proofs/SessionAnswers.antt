@@ -85,6 +85,10 @@ unfolding session_of
 all_alone table rs [] rules = tt
 all_alone table rs (name ∷ names) rules = (alone table (session_of table.deck rs name) rules (is_log table.deck (own name rs)), all_alone table rs names rules)
 
+each_alone : (table : PayTable) (csv : List ℕ) → IsTable table → AllByRecursion (IsReplayedAlone table) (sessions_of table.deck csv)
+unfolding sessions_of sessions_in
+each_alone table csv rules = all_alone table (games_in csv) (names_of (games_in csv)) rules
+
 -- ---- the answer
 
 sessions_as : (words : List Word) (bytes : List ℕ) (table : PayTable) (csv : List ℕ) → command_of words ≡ Some (Over Sessions) → sessions_input bytes ≡ Ok (table, csv)
@@ -109,12 +113,8 @@ by_first table csv due None rules kept is =
       text = ap (λ (a : Answer). a.text) (sym is);
       finding = subst (λ (a : Answer). a.status ≡ Finding ↔ 0 < count) is (finding_counts count);
       lawful = subst (λ (a : Answer). a.status ≡ Done ↔ (count ≡ 0)) is (done_counts count);
-      alone = each_alone;
+      alone = each_alone table csv rules;
     })
-  where
-    unfolding sessions_of sessions_in
-    each_alone : AllByRecursion (IsReplayedAlone table) (sessions_of table.deck csv)
-    each_alone = all_alone table (games_in csv) (names_of (games_in csv)) rules
 
 answer_is : (m : Mixed) → by_record m (refused_record m.table.deck m.csv) ≡ sessions_answer m
 unfolding sessions_answer
