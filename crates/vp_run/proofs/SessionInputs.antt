@@ -81,9 +81,9 @@ with_rest read = Ok (read.0, rest_of read.1)
 
 taken : (bytes : List ℕ) (read : PayTable × List ℕ) → sessions_input bytes ≡ Ok read → IsMixed bytes read
 taken bytes read e =
-    let (x, here, said) = bind_ok (table_at (feed_of bytes)) with_rest read e in
-    let s = Exact-table.takes (feed_of bytes) x.1 x.0 here in
-    subst (IsMixed bytes) (ok_is (x.0, rest_of x.1) read said) (record { table = s.0; left = x.1; front = s.1; csv = refl })
+    let p = bind_ok (table_at (feed_of bytes)) with_rest read e in
+    let s = Exact-table.takes (feed_of bytes) p.0.1 p.0.0 p.1 in
+    subst (IsMixed bytes) (ok_is (p.0.0, rest_of p.0.1) read p.2) (record { table = s.0; left = p.0.1; front = s.1; csv = refl })
 
 again : (bytes : List ℕ) (read : PayTable × List ℕ) → IsMixed bytes read → sessions_input bytes ≡ Ok read
 again bytes read is =
