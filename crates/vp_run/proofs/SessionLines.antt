@@ -1,17 +1,24 @@
 -- The lines of the sessions that are left to put, and how many of them are unlawful.
-use Rattle.std.proofs.Common.{◌≡◌, ◌+◌, ◌<◌, ◌≤◌, ℕ, zero, suc, Bool, true, false, List, [], ◌∷◌, ◌++◌, length, drop, drop-cons, get_or, refl, ap, sym, ◌∙◌, arith, append_assoc, if◌then◌else◌}
-use Rattle.std.specs.Prelude.{codes, filter, flat_map, is_some}
+use Rattle.std.proofs.Common.{◌≡◌, ◌+◌, ◌<◌, ◌≤◌, ℕ, zero, suc, Bool, true, false, List, [], ◌∷◌, ◌++◌, length, drop, drop-cons, get_or, refl, ap, sym, ◌∙◌, arith, append-nil, append_assoc, if◌then◌else◌, Option}
+use Rattle.std.specs.Prelude.{codes, flat_map, is_some}
 use Rattle.std.specs.Fmt.{decimal}
+use Rattle.vp_text.specs.Lines.{Word}
 use Rattle.vp_text.specs.Written.{line_of}
 use Rattle.vp_pay.specs.declared.table.PayTable.{PayTable}
-use Rattle.vp_csv.specs.Sessions.{Session}
+use Rattle.vp_loggram.specs.Logs.{LogValue}
+use Rattle.vp_csv.specs.Sessions.{Session, Sorted, session_at}
 use Rattle.vp_replay.specs.Rules.{break_in}
+use Rattle.vp_replay.specs.declared.rule.Broken.{Broken}
 use Rattle.vp_run.specs.Sessions.{is_unlawful, log_answer, session_text, sessions_text, unlawful}
 
 -- the two parts of the lines of a session
 pub session_lines : (table : PayTable) (s : Session) → session_text table s ≡ line_of (codes "session" ∷ s.name ∷ []) ++ (log_answer table s.log).text
 unfolding session_text
 session_lines table s = refl
+
+-- the same, of this name
+pub named_lines : (table : PayTable) (s : Session) (name : Word) → name ≡ s.name → line_of (codes "session" ∷ name ∷ []) ++ (log_answer table s.log).text ≡ session_text table s
+named_lines table s name is = ap (λ (w : Word). line_of (codes "session" ∷ w ∷ []) ++ (log_answer table s.log).text) is ∙ sym (session_lines table s)
 
 -- the last line of the answer
 abbrev pub last_line : PayTable → List Session → List ℕ
@@ -51,15 +58,16 @@ none_left table sessions place high = ap (λ (ss : List Session). flat_map (sess
 
 -- ---- how many are unlawful
 
-abbrev one_if : Bool → ℕ
-one_if b = if b then 1 else 0
-
-count_cons : (table : PayTable) (s : Session) (ss : List Session) (b : Bool) → is_unlawful table s ≡ b → unlawful table (s ∷ ss) ≡ one_if b + unlawful table ss
+count_cons : (table : PayTable) (s : Session) (ss : List Session) (b : Bool) → is_unlawful table s ≡ b → unlawful table (s ∷ ss) ≡ (if b then 1 else 0) + unlawful table ss
 unfolding unlawful
 count_cons table s ss true is = rw is (omega arith)
-count_cons table s ss false is = rw is refl
+count_cons table s ss false is = rw is (omega arith)
 
--- so many of those before a place are unlawful, and so many behind
+no_one : (table : PayTable) → unlawful table [] ≡ 0
+unfolding unlawful
+no_one table = refl
+
+-- so many of those before a place are unlawful
 pub record Counted (table : PayTable) (sessions : List Session) (place count : ℕ) : Type 0 where
   pub all : count + unlawful table (drop place sessions) ≡ unlawful table sessions
   pub few : count ≤ place
@@ -67,18 +75,40 @@ pub record Counted (table : PayTable) (sessions : List Session) (place count : �
 pub counted_none : (table : PayTable) (sessions : List Session) → Counted table sessions 0 0
 counted_none table sessions = record { all = omega arith; few = omega arith }
 
-pub counted_next : (table : PayTable) (sessions : List Session) (place count : ℕ) (other : Session) (b : Bool) → place < length sessions
-    → b ≡ is_some (break_in table (get_or sessions place other).log) → Counted table sessions place count → Counted table sessions (place + 1) (count + one_if b)
-counted_next table sessions place count other b low is so =
-    let next = ap (unlawful table) (next_of sessions place other low) in
-    let one = count_cons table (get_or sessions place other) (drop (place + 1) sessions) b (sym is) in
-    record { all = omega (arith, so.all, next, one); few = at_most b }
-  where
-    at_most : (b : Bool) → count + one_if b ≤ place + 1
-    at_most true = omega (arith, so.few)
-    at_most false = omega (arith, so.few)
+at_most : (count place : ℕ) (b : Bool) → count ≤ place → count + (if b then 1 else 0) ≤ place + 1
+at_most count place true few = omega (arith, few)
+at_most count place false few = omega (arith, few)
+
+pub counted_next : (table : PayTable) (sorted : Sorted) (place count after : ℕ) (log : LogValue) (broken : Option Broken) → place < length sorted.sessions → log ≡ (session_at sorted place).log
+    → broken ≡ break_in table log → after ≡ count + (if is_some broken then 1 else 0) → Counted table sorted.sessions place count → Counted table sorted.sessions (place + 1) after
+counted_next table sorted place count after log broken low same is more so =
+    let s = session_at sorted place in
+    let behind = drop (place + 1) sorted.sessions in
+    let next : unlawful table (drop place sorted.sessions) ≡ unlawful table (s ∷ behind) = ap (unlawful table) (next_of sorted.sessions place _ low) in
+    let judged : is_unlawful table s ≡ is_some broken = sym (ap (λ (o : Option Broken). is_some o) is ∙ ap (λ (l : LogValue). is_some (break_in table l)) same) in
+    let one : unlawful table (s ∷ behind) ≡ (if is_some broken then 1 else 0) + unlawful table behind = count_cons table s behind (is_some broken) judged in
+    let few = at_most count place (is_some broken) so.few in
+    record { all = omega (arith, so.all, next, one, more); few = omega (arith, few, more) }
 
 pub counted_all : (table : PayTable) (sessions : List Session) (place count : ℕ) → length sessions ≤ place → Counted table sessions place count → count ≡ unlawful table sessions
-unfolding unlawful
 counted_all table sessions place count high so =
-    omega (arith, so.all, ap (λ (ss : List Session). length (filter (is_unlawful table) ss)) (none_of sessions place high))
+    let none : unlawful table (drop place sessions) ≡ 0 = ap (unlawful table) (none_of sessions place high) ∙ no_one table in
+    omega (arith, so.all, none)
+
+-- ---- what a step of the loop puts
+
+pub session_next : (table : PayTable) (sorted : Sorted) (place : ℕ) (name : Word) (log : LogValue) → place < length sorted.sessions → name ≡ (session_at sorted place).name → log ≡ (session_at sorted place).log
+    → lines_left table sorted.sessions place ≡ session_text table (record { name = name; log = log }) ++ lines_left table sorted.sessions (place + 1)
+session_next table sorted place name log low is_name is_log =
+    let s = session_at sorted place in
+    let same : session_text table s ≡ session_text table (record { name = name; log = log }) =
+    ap (λ (n : Word). session_text table (record { name = n; log = s.log })) (sym is_name) ∙ ap (λ (l : LogValue). session_text table (record { name = name; log = l })) (sym is_log) in
+    next_left table sorted.sessions place _ low ∙ ap (λ (text : List ℕ). text ++ lines_left table sorted.sessions (place + 1)) same
+
+pub last_left : (table : PayTable) (sessions : List Session) (place count found : ℕ) → length sessions ≤ place → count ≡ length sessions → Counted table sessions place found
+    → lines_left table sessions place ≡ line_of (codes "sessions" ∷ decimal count ∷ decimal found ∷ []) ++ []
+last_left table sessions place count found high all so =
+    none_left table sessions place high
+    ∙ ap (λ n. line_of (codes "sessions" ∷ decimal n ∷ decimal (unlawful table sessions) ∷ [])) (sym all)
+    ∙ ap (λ n. line_of (codes "sessions" ∷ decimal count ∷ decimal n ∷ [])) (sym (counted_all table sessions place found high so))
+    ∙ sym (append-nil (line_of (codes "sessions" ∷ decimal count ∷ decimal found ∷ [])))

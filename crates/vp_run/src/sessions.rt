@@ -1,10 +1,12 @@
 //! `sessions`: the lines of `replay` for each log in a CSV text of many.
 
-ghost use Rattle.std.specs.Prelude.{◌≡◌, ◌<◌, ◌≤◌, IfOk, length};
+ghost use Rattle.std.specs.Prelude.{◌≡◌, ◌+◌, ◌<◌, ◌≤◌, ◌∷◌, [], IfOk, codes, if◌then◌else◌, is_some, length};
+ghost use Rattle.std.specs.Fmt.{decimal};
 ghost use Rattle.vp_card.specs.Cards.{IsDeck};
 ghost use Rattle.vp_io.specs.Puts.{Puts};
 ghost use Rattle.vp_loggram.specs.Logs.{IsLog};
 ghost use Rattle.vp_pay.specs.Table.{IsTable};
+ghost use Rattle.vp_text.specs.Written.{line_of};
 ghost use Rattle.vp_replay.specs.Rules.{break_in};
 ghost use Rattle.vp_csv.specs.Sessions.{session_at};
 ghost use Rattle.vp_answer.specs.Answers.{record_refusal};
@@ -140,16 +142,28 @@ fn put_sessions<K: Sink>(
     ensures puts { Puts (K.told sink.old) (K.told sink.new) result (sessions_text games.now sessions.now.sessions) }
     ensures unlawful { IfOk result (λ count. count ≡ unlawful games.now sessions.now.sessions) }
 {
+    let table = games.table();
     let count = sessions.count();
     let mut unlawful = 0;
     for place in 0..count {
-        let log = log_at(sessions, place, games.table().deck);
-        let broken = first_break(games.table(), &log);
+        let log = log_at(sessions, place, table.deck);
+        let broken = first_break(table, &log);
         put_session(games, &sessions.name(place), &log, broken, sink)?;
-        unlawful += u32::from(broken.is_some());
+        unlawful = counted(unlawful, broken);
     }
     put_count(count, unlawful, sink)?;
     Ok(unlawful)
+}
+
+/// One more is unlawful where its log has a first break.
+fn counted(count: u32, broken: Option<Broken>) -> u32
+    requires { count < 1000 }
+    ensures { result ≡ count + (if is_some broken then 1 else 0) }
+{
+    match broken {
+        None => count,
+        Some(_) => count + 1,
+    }
 }
 
 /// Puts how many sessions there are, and how many are unlawful.
@@ -172,8 +186,7 @@ fn log_at<'a>(sessions: &'a Sessions, place: u32, deck: u8) -> Log<'a>
     ensures log { result ≡ (session_at sessions.now place).log }
     ensures grammar { IsLog deck result }
 {
-    let mut lines = Lines::new(sessions.log(place));
-    Log::read(&mut lines, deck).unwrap()
+    Log::read(&mut Lines::new(sessions.log(place)), deck).unwrap()
 }
 
 /// Puts the lines of a session, whose log has this for its first break.
