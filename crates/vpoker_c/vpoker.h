@@ -59,8 +59,8 @@ enum {
  * The words, the input and the room stay the caller's. It keeps no pointer, no memory and no state between calls, so
  * threads may call it at the same time, each with a room of its own. During a call it takes memory from malloc: a copy of
  * the input, room_len bytes, and what the command takes: a table of sums has 23 MB for 52 cards and 28 MB for 54; deal,
- * certify and audit take one, meter and multi two, replay one for each column of the pay table, play one more than that and
- * its log, compile one and at most 92 MB more, check and tables none.
+ * certify and audit take one, multi two, meter two and at most 16 MB more, replay one for each column of the pay table, play
+ * one more than that and its log, compile one and at most 93 MB more, check and tables none.
  */
 uint8_t vpoker_answer(const uint8_t *words, size_t words_len, const uint8_t *input, size_t input_len, uint8_t *room,
                       size_t room_len, size_t *taken);
