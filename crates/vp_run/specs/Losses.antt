@@ -7,7 +7,8 @@ use Rattle.vp_sets.specs.Sets.{choose}
 use Rattle.vp_suit.specs.Classes.{IsDeal, representative}
 use Rattle.vp_draws.specs.Draws.{best, sum_of_best, value}
 use Rattle.vp_rule.specs.Lists.{RuleList}
-use Rattle.vp_audit.specs.Audits.{audited, deals, shared_deals, shared_loss}
+use Rattle.vp_suit.specs.Laws.{deals}
+use Rattle.vp_audit.specs.Audits.{audited, shared_deals, shared_loss}
 use Rattle.vp_audit.specs.Laws.{IsChargedJust, IsGreatestAllowed, IsLeastAllowed}
 use Rattle.vp_audit.specs.Values.{deciding, excepted, greatest_value, least_value, no_rule}
 use Rattle.vp_answer.specs.Answers.{Answer}

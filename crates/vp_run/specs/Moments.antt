@@ -8,7 +8,8 @@ use Rattle.vp_sets.specs.Sets.{choose}
 use Rattle.vp_suit.specs.Classes.{IsDeal}
 use Rattle.vp_draws.specs.Draws.{best, value, value2}
 use Rattle.vp_multi.specs.Moments.{AreMoments, IsPrintedHold}
-use Rattle.vp_multi.specs.Sums.{deals, first_moment, printed_square, second_moment, squared_value, variance_within}
+use Rattle.vp_suit.specs.Laws.{deals}
+use Rattle.vp_multi.specs.Sums.{first_moment, printed_square, second_moment, squared_value, variance_within}
 use Rattle.vp_answer.specs.Answers.{Answer}
 use Rattle.vp_answer.specs.declared.status.Status.TheVariants.{Done}
 use Rattle.vp_run.specs.Answer.{answer}
