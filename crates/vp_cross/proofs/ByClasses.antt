@@ -48,8 +48,8 @@ pub record Tallied (played priced : PayTable) (coin : ℕ) (left : List (List �
   pub each : All (IsClass priced.deck) left
   pub best : optimum + weighed (best priced coin) left ≡ sum_of_best priced coin
   pub value : crossed + weighed (crossed_value played priced coin) left ≡ sum_of_crossed played priced coin
-  pub classes : classes + count_by (costs played priced coin) left ≡ costly_classes played priced coin
-  pub deals : deals + weighed (costs_one played priced coin) left ≡ costly_deals played priced coin
+  pub counted : classes + count_by (costs played priced coin) left ≡ costly_classes played priced coin
+  pub dealt : deals + weighed (costs_one played priced coin) left ≡ costly_deals played priced coin
   pub worst : kept (priced_class played priced coin) before left ≡ worst played priced coin
 
 whole : (f : List ℕ → ℕ) (sum : ℕ) (left all : List (List ℕ)) → left ≡ all → weighed f all ≡ sum → 0 + weighed f left ≡ sum
@@ -79,8 +79,8 @@ tallied_none played priced coin left t is =
       each = All-same (IsClass priced.deck) left (representatives priced.deck) is (representatives_only priced.deck);
       best = whole (best priced coin) (sum_of_best priced coin) left (representatives priced.deck) is (best_by_classes coin priced big);
       value = whole (crossed_value played priced coin) _ left (representatives priced.deck) is (value_total played priced coin big);
-      classes = classes_total played priced coin left is;
-      deals = whole (costs_one played priced coin) _ left (representatives priced.deck) is (deals_total played priced coin big);
+      counted = classes_total played priced coin left is;
+      dealt = whole (costs_one played priced coin) _ left (representatives priced.deck) is (deals_total played priced coin big);
       worst = worst_total played priced coin left is;
     }
 
@@ -122,9 +122,9 @@ module _ (played priced : PayTable) (coin : ℕ) (cards : List ℕ) (left rest :
     each = All-rest (IsClass priced.deck) cards rest left is a.each;
     best = more (best priced coin) _ optimum new_optimum o a.best;
     value = more (crossed_value played priced coin) _ crossed new_crossed v a.value;
-    classes = (let n : new_classes ≡ classes + costs_one played priced coin cards = c ∙ ap (λ (x : Worst). classes + one (nat_lt 0 x.cost)) says in omega (arith, n, counted_left, a.classes));
-    deals = more (costs_one played priced coin) _ deals new_deals
-        (d ∙ ap (λ m. deals + m) (weighs_one (nat_lt 0 told.cost) w) ∙ ap (λ (x : Worst). deals + w * one (nat_lt 0 x.cost)) says ∙ ap (λ m. deals + m * costs_one played priced coin cards) e) a.deals;
+    counted = (let n : new_classes ≡ classes + costs_one played priced coin cards = c ∙ ap (λ (x : Worst). classes + one (nat_lt 0 x.cost)) says in omega (arith, n, counted_left, a.counted));
+    dealt = more (costs_one played priced coin) _ deals new_deals
+        (d ∙ ap (λ m. deals + m) (weighs_one (nat_lt 0 told.cost) w) ∙ ap (λ (x : Worst). deals + w * one (nat_lt 0 x.cost)) says ∙ ap (λ m. deals + m * costs_one played priced coin cards) e) a.dealt;
     worst =
         ap (λ o. kept (priced_class played priced coin) o rest) (k ∙ ap (later before) says)
         ∙ sym (ap (kept (priced_class played priced coin) before) is)
@@ -140,13 +140,13 @@ module _ (played priced : PayTable) (coin : ℕ) (cards : List ℕ) (left rest :
 
   pub classes_fit : classes + 1 < 2 ^ 32
   unfolding costly_classes
-  classes_fit = omega (arith, a.classes, count_by-le-length (costs played priced coin) (representatives priced.deck), few_classes priced.deck t.known_deck)
+  classes_fit = omega (arith, a.counted, count_by-le-length (costs played priced coin) (representatives priced.deck), few_classes priced.deck t.known_deck)
 
   pub deals_fit : (w : ℕ) → w ≡ weight cards → deals + w < 2 ^ 32
   unfolding costly_deals
   deals_fit w e =
       let many : length (combos 5 (deck priced.deck)) ≡ choose priced.deck 5 = length-combos 5 (deck priced.deck) ∙ ap (λ m. choose m 5) (length-deck priced.deck) in
-      omega (arith, a.deals, e, count_by-le-length (costs played priced coin) (combos 5 (deck priced.deck)), many, choose_small priced.deck 5 (omega (arith, t.known_deck.1)) (lit≤ tt), (weight_few cards).1)
+      omega (arith, a.dealt, e, count_by-le-length (costs played priced coin) (combos 5 (deck priced.deck)), many, choose_small priced.deck 5 (omega (arith, t.known_deck.1)) (lit≤ tt), (weight_few cards).1)
 
 -- ---- none is left
 
@@ -156,8 +156,8 @@ none_left f left e = ap (weighed f) e
 pub record IsCrossed (played priced : PayTable) (coin optimum crossed classes deals : ℕ) (after : Option Worst) : Type 0 where
   pub best : optimum ≡ sum_of_best priced coin
   pub value : crossed ≡ sum_of_crossed played priced coin
-  pub classes : classes ≡ costly_classes played priced coin
-  pub deals : deals ≡ costly_deals played priced coin
+  pub counted : classes ≡ costly_classes played priced coin
+  pub dealt : deals ≡ costly_deals played priced coin
   pub worst : after ≡ worst played priced coin
 
 pub tallied_all : (played priced : PayTable) (coin : ℕ) (left : List (List ℕ)) (optimum crossed classes deals : ℕ) (before : Option Worst) → left ≡ []
@@ -165,8 +165,8 @@ pub tallied_all : (played priced : PayTable) (coin : ℕ) (left : List (List ℕ
 tallied_all played priced coin left optimum crossed classes deals before none a = record {
   best = omega (arith, a.best, none_left (best priced coin) left none);
   value = omega (arith, a.value, none_left (crossed_value played priced coin) left none);
-  classes = (let z : count_by (costs played priced coin) left ≡ 0 = ap (count_by (costs played priced coin)) none in omega (arith, a.classes, z));
-  deals = omega (arith, a.deals, none_left (costs_one played priced coin) left none);
+  counted = (let z : count_by (costs played priced coin) left ≡ 0 = ap (count_by (costs played priced coin)) none in omega (arith, a.counted, z));
+  dealt = omega (arith, a.dealt, none_left (costs_one played priced coin) left none);
   worst = sym (ap (kept (priced_class played priced coin) before) none) ∙ a.worst;
 }
 

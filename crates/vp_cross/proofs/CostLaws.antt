@@ -1,8 +1,8 @@
 -- The laws of one table's play on another.
-use Rattle.std.proofs.Common.{◌≡◌, ◌↔◌, ℕ, zero, suc, ◌+◌, ◌-◌, ◌*◌, ◌<◌, ◌≤◌, Bool, true, false, cond, ltb, List, [], ◌∷◌, length, map, Option, None, Some, option_map, ap, sym, subst, ◌∙◌, arith, refl, inl, inr}
+use Rattle.std.proofs.Common.{◌≡◌, ◌↔◌, ℕ, zero, suc, ◌+◌, ◌-◌, ◌*◌, ◌<◌, ◌≤◌, Bool, true, false, cond, ltb, List, [], ◌∷◌, length, map, Option, None, Some, option_map, ap, sym, subst, ◌∙◌, arith, refl, inl, inr, ◌⊎◌}
 use Rattle.std.specs.List.{All, Contains}
 use Rattle.std.specs.Prelude.{sum_by, count_by, find, max, nat_lt, ◌==◌, if◌then◌else◌}
-use Rattle.std.proofs.lemmas.Bool.{cases_lt, le-ltb, ltb-true}
+use Rattle.std.proofs.lemmas.Bool.{cases_lt, le-ltb, lt-ltb, ltb-true}
 use Rattle.std.proofs.lemmas.Bool.Decides.{nat_tests}
 use Rattle.std.proofs.lemmas.List.Elements.{All-head, All-tail}
 use Rattle.std.proofs.lemmas.List.Sums.{sum_by-cons}
@@ -61,17 +61,17 @@ most_none g (x ∷ xs) h = omega (arith, All-head (λ cards. g cards ≡ 0) x xs
 not_reached : (g : List ℕ → ℕ) (some : List (List ℕ)) (m : ℕ) → 0 < m → find (λ cards. g cards == m) some ≡ None → most g some ≡ m → ⊥
 unfolding most
 not_reached g [] m l e is = omega arith
-not_reached g (x ∷ xs) m l e is = at (g x == m) refl e
+not_reached g (x ∷ xs) m l e is = at (g x == m) refl (λ h c. not_reached g xs m l h c) e
   where
     other : (a m : ℕ) → (a == m) ≡ false → a ≡ m → ⊥
     other a m e s = grind (arith, nat_tests)
 
-    at : (b : Bool) → (g x == m) ≡ b → cond b (Some x) (find (λ cards. g cards == m) xs) ≡ None → ⊥
-    at true b h = none-some x (sym h)
-    at false b h = not_reached g xs m l h (rest (g x) (most g xs) (other (g x) m b) is)
-      where
-        rest : (a c : ℕ) → (a ≡ m → ⊥) → max a c ≡ m → c ≡ m
-        rest a c h e = grind (arith)
+    last : (a c m : ℕ) → (a ≡ m → ⊥) → max a c ≡ m → c ≡ m
+    last a c m h e = grind (arith)
+
+    at : (b : Bool) → (g x == m) ≡ b → (find (λ cards. g cards == m) xs ≡ None → most g xs ≡ m → ⊥) → cond b (Some x) (find (λ cards. g cards == m) xs) ≡ None → ⊥
+    at true b rest h = none-some x (sym h)
+    at false b rest h = rest h (last (g x) (most g xs) m (other (g x) m b) is)
 
 -- the first of a list that passes a test
 record Found (p : List ℕ → Bool) (P : List ℕ → Type 0) (some : List (List ℕ)) (r : List ℕ) : Type 0 where
@@ -86,7 +86,7 @@ below_all i (x ∷ xs) cards b (suc k, l, e) = below_all i xs cards b.1 (k, omeg
 
 found : (p : List ℕ → Bool) (P : List ℕ → Type 0) (some : List (List ℕ)) (r : List ℕ) → All P some → IsRising (map set_index some) → find p some ≡ Some r → Found p P some r
 found p P [] r all rises e = absurd (none-some r e)
-found p P (x ∷ xs) r all rises e = at (p x) refl e
+found p P (x ∷ xs) r all rises e = at (p x) refl (λ s. found p P xs r (All-tail P x xs all) rises.1 s) e
   where
     here : p x ≡ true → x ≡ r → Found p P (x ∷ xs) r
     here t same = record {
@@ -106,9 +106,9 @@ found p P (x ∷ xs) r all rises e = at (p x) refl e
         misses cards (zero, l, e) less = sym (ap p e) ∙ t
         misses cards (suc k, l, e) less = f.first cards (k, omega arith, e) less
 
-    at : (b : Bool) → p x ≡ b → cond b (Some x) (find p xs) ≡ Some r → Found p P (x ∷ xs) r
-    at true t s = here t (same_Some x r s)
-    at false t s = later t (found p P xs r (All-tail P x xs all) rises.1 s)
+    at : (b : Bool) → p x ≡ b → (find p xs ≡ Some r → Found p P xs r) → cond b (Some x) (find p xs) ≡ Some r → Found p P (x ∷ xs) r
+    at true t rest s = here t (same_Some x r s)
+    at false t rest s = later t (rest s)
 
 -- what the greatest cost of a class tells of each deal
 cost_of_class : (played priced : PayTable) (coin : ℕ) (cards : List ℕ) → 52 ≤ priced.deck → IsDeal priced.deck cards → cost played priced coin (representative cards) ≡ cost played priced coin cards
@@ -123,10 +123,10 @@ contained : (n : ℕ) (cards : List ℕ) → 52 ≤ n → IsDeal n cards → is_
 contained n cards big d stands = subst (λ (x : List ℕ). Contains (representatives n) x) (representative_own n cards big d stands) (representatives_all n cards big d)
 
 module _ (played priced : PayTable) (coin : ℕ) (t : IsTable priced) where
-  f : List ℕ → ℕ
+  abbrev f : List ℕ → ℕ
   f cards = cost played priced coin cards
 
-  top : ℕ
+  abbrev top : ℕ
   top = most f (representatives priced.deck)
 
   big : 52 ≤ priced.deck

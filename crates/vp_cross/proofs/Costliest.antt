@@ -8,12 +8,12 @@ use Rattle.vp_cross.specs.Later.{cost_of, later}
 use Rattle.vp_cross.specs.declared.crossed.Worst.{Worst}
 
 -- the worst class, going on from the one so far
-pub kept : (List ℕ → Worst) → Option Worst → List (List ℕ) → Option Worst
+abbrev pub kept : (List ℕ → Worst) → Option Worst → List (List ℕ) → Option Worst
 kept told before [] = before
 kept told before (cards ∷ more) = kept told (later before (told cards)) more
 
 module _ (told : List ℕ → Worst) where
-  f : List ℕ → ℕ
+  abbrev f : List ℕ → ℕ
   f cards = (told cards).cost
 
   takes : (before : Option Worst) (class : Worst) → cost_of before < class.cost → later before class ≡ Some class
@@ -23,7 +23,7 @@ module _ (told : List ℕ → Worst) where
   leaves before class l = ap (λ b. cond b (Some class) before) (le-ltb (cost_of before) class.cost l)
 
   -- what is chosen in the end
-  chosen : Option Worst → List (List ℕ) → ℕ → Option Worst
+  abbrev chosen : Option Worst → List (List ℕ) → ℕ → Option Worst
   chosen before some top = cond (ltb (cost_of before) top) (option_map told (find (λ cards. f cards == top) some)) before
 
   chosen_yes : (before : Option Worst) (some : List (List ℕ)) (top : ℕ) → cost_of before < top → chosen before some top ≡ option_map told (find (λ cards. f cards == top) some)

@@ -1,6 +1,6 @@
 //! What the holds that are printed for one pay table cost on another, summed over all deals class by class.
 
-ghost use Rattle.std.specs.Prelude.{◌≡◌, ◌+◌, ◌^◌, ◌<◌, if◌then◌else◌, nat_lt, Some};
+ghost use Rattle.std.specs.Prelude.{◌≡◌, ◌+◌, ◌^◌, ◌<◌, ◌≤◌, if◌then◌else◌, nat_lt, Some};
 ghost use Rattle.vp_draws.specs.Draws.{sum_of_best};
 ghost use Rattle.vp_cross.specs.Crossings.{costly_classes, costly_deals, sum_of_crossed, worst};
 ghost use Rattle.vp_cross.specs.Later.{later};
@@ -48,6 +48,7 @@ pub fn cross(played: &Game, priced: &Game) -> Crossed
     ensures classes { result.classes ≡ costly_classes played.now.table priced.now.table priced.now.coin }
     ensures deals { result.deals ≡ costly_deals played.now.table priced.now.table priced.now.coin }
     ensures worst { result.worst ≡ worst played.now.table priced.now.table priced.now.coin }
+    ensures most { result.value ≤ result.optimum }
 {
     let mut classes = Classes::new(priced.table().deck);
     let mut crossed = Crossed {

@@ -11,7 +11,7 @@ use vp_card::Hand;
 use vp_count::table_words;
 use vp_hold::Game;
 use vp_pay::PayTable;
-use vp_pay::samples::{JACKS, ONE_JOKER};
+use vp_pay::samples::{BONUS, JACKS, ONE_JOKER};
 
 /// What the play of one table costs on another of the same deck, for one coin.
 fn crossed_with(
@@ -75,6 +75,19 @@ fn a_joker_that_is_worth_nothing(rt: HostRuntime) -> Result<(), Fail> {
     assert_eq!(rt; (told.optimum, told.value), (0, 0));
     assert_eq!(rt; (told.classes, told.deals), (0, 0));
     assert!(rt; told.worst.is_none());
+    Ok(())
+}
+
+// The figures are those of a plain program that takes every deal's image of least index under the 24 exchanges of suits.
+#[test]
+fn jacks_play_on_bonus(rt: HostRuntime) -> Result<(), Fail> {
+    let told = crossed_texts(rt.alloc(), JACKS, BONUS)?;
+    assert_eq!(rt; (told.optimum, told.value), (19766982030036, 19765442272620));
+    assert_eq!(rt; (told.classes, told.deals), (721, 13728));
+    let worst = told.worst.ok_or("a class that costs something")?;
+    // 2c Tc Td Jc Ac: four to a flush are held, where three to a royal flush are worth more.
+    assert_eq!(rt; worst.hand.numbers(), [0, 32, 33, 36, 48]);
+    assert_eq!(rt; (worst.mask, worst.best, worst.cost), (27, 26, 1213245));
     Ok(())
 }
 
