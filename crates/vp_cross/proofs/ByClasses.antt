@@ -1,5 +1,5 @@
 -- The classes so far: what was added up, and what is left of them.
-use Rattle.std.proofs.Common.{◌≡◌, ℕ, true, ◌+◌, ◌-◌, ◌*◌, ◌^◌, ◌<◌, ◌≤◌, Bool, false, cond, ltb, List, [], ◌∷◌, length, Option, None, Some, ap, sym, subst, ◌∙◌, arith, refl, lit≤}
+use Rattle.std.proofs.Common.{◌≡◌, ℕ, true, ◌+◌, ◌-◌, ◌*◌, ◌^◌, ◌<◌, ◌≤◌, Bool, false, List, [], ◌∷◌, length, Option, None, ap, sym, subst, ◌∙◌, arith, refl, lit≤}
 use Rattle.std.specs.List.{All}
 use Rattle.std.specs.Prelude.{sum_by, count_by, nat_lt, if◌then◌else◌}
 use Rattle.std.proofs.lemmas.List.Sums.{sum_by-cons, count_by-le-length}
@@ -85,7 +85,7 @@ tallied_none played priced coin left t is =
     }
 
 module _ (played priced : PayTable) (coin : ℕ) (cards : List ℕ) (left rest : List (List ℕ)) (is : left ≡ cards ∷ rest) (optimum crossed classes deals : ℕ) (before : Option Worst)
-         (t : IsTable priced) (a : Tallied played priced coin left optimum crossed classes deals before) where
+    (t : IsTable priced) (a : Tallied played priced coin left optimum crossed classes deals before) where
   class : IsClass priced.deck cards
   class = All-head (IsClass priced.deck) cards rest (subst (λ (l : List (List ℕ)). All (IsClass priced.deck) l) is a.each)
 

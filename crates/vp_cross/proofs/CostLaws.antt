@@ -1,26 +1,24 @@
 -- The laws of one table's play on another.
-use Rattle.std.proofs.Common.{◌≡◌, ◌↔◌, ℕ, zero, suc, ◌+◌, ◌-◌, ◌*◌, ◌<◌, ◌≤◌, Bool, true, false, cond, ltb, List, [], ◌∷◌, length, map, Option, None, Some, option_map, ap, sym, subst, ◌∙◌, arith, refl, inl, inr, ◌⊎◌}
+use Rattle.std.proofs.Common.{◌≡◌, ◌↔◌, ℕ, zero, suc, ◌<◌, ◌≤◌, Bool, true, false, cond, ltb, List, [], ◌∷◌, map, Option, None, Some, option_map, ap, sym, subst, ◌∙◌, arith, refl, inl, inr, ◌⊎◌}
 use Rattle.std.specs.List.{All, Contains}
-use Rattle.std.specs.Prelude.{sum_by, count_by, find, max, nat_lt, ◌==◌, if◌then◌else◌}
+use Rattle.std.specs.Prelude.{count_by, find, max, ◌==◌}
 use Rattle.std.proofs.lemmas.Bool.{cases_lt, le-ltb, lt-ltb, ltb-true}
 use Rattle.std.proofs.lemmas.Bool.Decides.{nat_tests}
 use Rattle.std.proofs.lemmas.List.Elements.{All-head, All-tail}
 use Rattle.std.proofs.lemmas.List.Sums.{sum_by-cons}
-use Rattle.std.proofs.lemmas.Option.{none-some, same_Some, cond_some}
+use Rattle.std.proofs.lemmas.Option.{none-some, same_Some}
 use Rattle.vp_card.specs.Rising.{IsBelow, IsRising}
 use Rattle.vp_card.proofs.Rising.{rising_from}
 use Rattle.vp_pay.specs.declared.table.PayTable.{PayTable}
 use Rattle.vp_pay.specs.Table.{IsTable}
 use Rattle.vp_sets.specs.Index.{set_index}
-use Rattle.vp_suit.specs.Classes.{IsDeal, is_representative, least_turn, representative, representatives, weight}
-use Rattle.vp_suit.specs.Laws.{deals}
-use Rattle.vp_suit.specs.Turns.{turn}
+use Rattle.vp_suit.specs.Classes.{IsDeal, is_representative, least_turn, representative, representatives}
 use Rattle.vp_suit.proofs.ClassLaws.{representatives_all, representatives_only, representatives_rise, representative_own}
 use Rattle.vp_suit.proofs.Deals.{deal_rises}
 use Rattle.vp_suit.proofs.Representatives.{represented}
-use Rattle.vp_draws.specs.Draws.{best, least_best, sum_of_best, value}
-use Rattle.vp_cross.specs.Crossings.{crossed_value, cost, costliest, costs, costly_classes, costly_deals, most, priced_class, sum_of_crossed, worst}
-use Rattle.vp_cross.specs.Laws.{CostsNothing, IsPrintedHold, IsWorst, PrintsBestHolds}
+use Rattle.vp_draws.specs.Draws.{sum_of_best}
+use Rattle.vp_cross.specs.Crossings.{cost, costliest, costs, costly_classes, costly_deals, most, priced_class, sum_of_crossed, worst}
+use Rattle.vp_cross.specs.Laws.{CostsNothing, IsWorst, PrintsBestHolds}
 use Rattle.vp_cross.specs.declared.crossed.Worst.{Worst}
 use Rattle.vp_cross.proofs.Costs.{cost_kept, make_up, has_printed_hold, own_play, printed_value}
 use Rattle.vp_cross.proofs.Totals.{costs_add_up, deals_none, each_deal_none}
@@ -187,10 +185,11 @@ module _ (played priced : PayTable) (coin : ℕ) (t : IsTable priced) where
       at (inr l) = omega arith
 
   pub none_where_equal : (worst played priced coin ≡ None) ↔ (sum_of_crossed played priced coin ≡ sum_of_best priced coin)
-  none_where_equal =
-      (λ e. no_costs played priced coin t (λ cards d. omega (arith, none_worst e, cost_le played priced coin cards big d)),
-      λ e. no_class (most_none f (representatives priced.deck) (λ k d l.
-      each_deal_none priced.deck f (omega (arith, costs_add_up played priced coin t, e)) _ (representatives_only priced.deck k d l).0)))
+  none_where_equal = (
+    λ e. no_costs played priced coin t (λ cards d. omega (arith, none_worst e, cost_le played priced coin cards big d)),
+    λ e. no_class (most_none f (representatives priced.deck) (λ k d l.
+        each_deal_none priced.deck f (omega (arith, costs_add_up played priced coin t, e)) _ (representatives_only priced.deck k d l).0)),
+  )
 
 -- ---- a table's own play
 

@@ -1,5 +1,5 @@
 -- Sums over all deals of crossed values and of costs.
-use Rattle.std.proofs.Common.{◌≡◌, ◌↔◌, ℕ, zero, suc, ◌+◌, ◌^◌, ◌<◌, ◌≤◌, List, ap, sym, subst, ◌∙◌, arith, inl, inr}
+use Rattle.std.proofs.Common.{◌≡◌, ℕ, zero, suc, ◌+◌, ◌^◌, ◌<◌, ◌≤◌, List, ap, sym, ◌∙◌, arith, inl, inr}
 use Rattle.std.specs.Prelude.{sum_by}
 use Rattle.std.proofs.lemmas.Bool.{cases_lt}
 use Rattle.vp_pay.specs.declared.table.PayTable.{PayTable}
@@ -8,7 +8,7 @@ use Rattle.vp_sets.specs.Sets.{choose}
 use Rattle.vp_sets.specs.Index.{set_index}
 use Rattle.vp_suit.specs.Classes.{IsDeal}
 use Rattle.vp_suit.specs.Laws.{deals}
-use Rattle.vp_suit.proofs.Below.{below, below-zero, below-suc, below-same, below-none, below-plus}
+use Rattle.vp_suit.proofs.Below.{below, below-suc, below-same, below-none, below-plus}
 use Rattle.vp_suit.proofs.Deals.{deal, deal_is, deal_at, index_small, sum_of_deals}
 use Rattle.vp_draws.specs.Draws.{best, sum_of_best}
 use Rattle.vp_draws.proofs.Bounds.{sum_of_best_fits}

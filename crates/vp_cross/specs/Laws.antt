@@ -1,5 +1,5 @@
 -- What the costs of one table's play on another obey. Where nothing else is said, `played` is any table, and `priced` keeps the rules.
-use Rattle.std.specs.Prelude.{◌≡◌, ◌↔◌, ℕ, ◌+◌, ◌<◌, ◌≤◌, true, List, Option, None, Some, sum_by}
+use Rattle.std.specs.Prelude.{◌≡◌, ◌↔◌, ℕ, ◌+◌, ◌<◌, ◌≤◌, true, List, None, Some, sum_by}
 use Rattle.vp_pay.specs.declared.table.PayTable.{PayTable}
 use Rattle.vp_pay.specs.Table.{IsTable}
 use Rattle.vp_sets.specs.Index.{set_index}

@@ -7,4 +7,7 @@ mod laws;
 mod tests;
 
 pub use crossed::{Crossed, Worst, cross};
-pub use laws::{costs_are_of_printed_holds, crossed_values_never_exceed, own_play_costs_nothing, worst_classes_cost_most};
+pub use laws::{
+    costs_are_of_printed_holds, crossed_values_never_exceed, own_play_costs_nothing,
+    worst_classes_cost_most,
+};

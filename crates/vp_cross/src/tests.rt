@@ -82,7 +82,10 @@ fn a_joker_that_is_worth_nothing(rt: HostRuntime) -> Result<(), Fail> {
 #[test]
 fn jacks_play_on_bonus(rt: HostRuntime) -> Result<(), Fail> {
     let told = crossed_texts(rt.alloc(), JACKS, BONUS)?;
-    assert_eq!(rt; (told.optimum, told.value), (19766982030036, 19765442272620));
+    assert_eq!(rt;
+        (told.optimum, told.value),
+        (19766982030036, 19765442272620)
+    );
     assert_eq!(rt; (told.classes, told.deals), (721, 13728));
     let worst = told.worst.ok_or("a class that costs something")?;
     // 2c Tc Td Jc Ac: four to a flush are held, where three to a royal flush are worth more.
@@ -94,7 +97,10 @@ fn jacks_play_on_bonus(rt: HostRuntime) -> Result<(), Fail> {
 #[test]
 fn own_play(rt: HostRuntime) -> Result<(), Fail> {
     let told = crossed_texts(rt.alloc(), JACKS, JACKS)?;
-    assert_eq!(rt; (told.optimum, told.value), (19842315923796, 19842315923796));
+    assert_eq!(rt;
+        (told.optimum, told.value),
+        (19842315923796, 19842315923796)
+    );
     assert_eq!(rt; (told.classes, told.deals), (0, 0));
     assert!(rt; told.worst.is_none());
     Ok(())

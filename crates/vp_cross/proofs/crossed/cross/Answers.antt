@@ -1,4 +1,4 @@
-use Rattle.std.proofs.Common.{◌≡◌, ℕ, ◌+◌, ◌-◌, ◌*◌, ◌∙◌, ap, arith, refl}
+use Rattle.std.proofs.Common.{◌≡◌, ◌+◌, ◌*◌, ◌∙◌, ap, arith, refl}
 use Rattle.vp_card.specs.Cards.{in_deck}
 use Rattle.vp_pay.specs.declared.table.PayTable.{PayTable}
 use Rattle.vp_suit.specs.Classes.{representatives, weight}
@@ -26,8 +26,11 @@ value-value-requires-clause-cards c = next_hand _ _ _ c.in-Some.class.hand _ _ c
 
 pub overflow_add-crossed : goal.overflow_add-crossed
 overflow_add-crossed c =
-    omega (arith, weighed_is _ _ _ _ (c.from-weight.ensures ∙ c.in-Some.ensures.weight) (c.from.ensures ∙ c.best-best.ensures.best),
-    best_fits _ _ _ c.in-Some.class.hand _ _ c.in-Some.ensures.given _ _ _ _ _ c.table.ensures.rules c.loop-class.invariant)
+    omega (
+      arith,
+      weighed_is _ _ _ _ (c.from-weight.ensures ∙ c.in-Some.ensures.weight) (c.from.ensures ∙ c.best-best.ensures.best),
+      best_fits _ _ _ c.in-Some.class.hand _ _ c.in-Some.ensures.given _ _ _ _ _ c.table.ensures.rules c.loop-class.invariant,
+    )
 
 pub overflow_add-crossed-in-Some : goal.overflow_add-crossed-in-Some
 overflow_add-crossed-in-Some c =
@@ -37,8 +40,11 @@ overflow_add-crossed-in-Some c =
     c.value-value.ensures
     ∙ ap (λ m. value c.args.priced.now.table c.args.priced.now.coin c.in-Some.class.hand m) mask_is
     ∙ next_value _ _ _ c.in-Some.class.hand _ _ c.in-Some.ensures.given _ _ _ _ _ c.table.ensures.rules c.loop-class.invariant in
-    omega (arith, weighed_is _ _ _ _ (c.from-weight.ensures ∙ c.in-Some.ensures.weight) (c.from-in-Some.ensures ∙ value_is),
-    value_fits _ _ _ c.in-Some.class.hand _ _ c.in-Some.ensures.given _ _ _ _ _ c.table.ensures.rules c.loop-class.invariant)
+    omega (
+      arith,
+      weighed_is _ _ _ _ (c.from-weight.ensures ∙ c.in-Some.ensures.weight) (c.from-in-Some.ensures ∙ value_is),
+      value_fits _ _ _ c.in-Some.class.hand _ _ c.in-Some.ensures.given _ _ _ _ _ c.table.ensures.rules c.loop-class.invariant,
+    )
 
 pub count-requires-clause-classes : goal.count-requires-clause-classes
 count-requires-clause-classes c = classes_fit _ _ _ c.in-Some.class.hand _ _ c.in-Some.ensures.given _ _ _ _ _ c.table.ensures.rules c.loop-class.invariant

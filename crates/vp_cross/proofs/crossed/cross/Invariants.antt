@@ -1,5 +1,5 @@
 -- The classes so far were added up.
-use Rattle.std.proofs.Common.{◌≡◌, length}
+use Rattle.std.proofs.Common.{length}
 use Rattle.vp_cross.proofs.ByClasses.{Tallied}
 use Rattle.vp_cross.proofs.crossed.cross.Given as goal
 
