@@ -33,14 +33,14 @@ taken cards (a ∷ []) values e = absurd (no_value _ e)
 taken cards (a ∷ b ∷ []) values e = absurd (no_value _ e)
 taken cards (s ∷ a ∷ b ∷ rest) values e =
     chosen (λ values. Read cards (s ∷ a ∷ b ∷ rest) values) (s == 32 && nat_lt (length cards) 5) _ None values e
-      (λ both h.
-        let is = (both_true (s == 32) (nat_lt (length cards) 5) both).0 in
-        let c = bound (card_of (a ∷ b ∷ [])) _ _ h in
-        let x = Exact-card.takes (a ∷ b ∷ []) c.value c.first in
-        let r = taken (cards ++ c.value ∷ []) rest values c.then in
-        let space : s ≡ 32 = grind (arith, nat_tests) in
-        record { more = c.value ∷ r.more; is = r.is ∙ append_assoc cards (c.value ∷ []) r.more; text_is = rw (space, x.1, ← r.text_is) refl; all = (x.0, r.all) })
-      (λ none. absurd (no_value _ none))
+    (λ both h.
+    let is = (both_true (s == 32) (nat_lt (length cards) 5) both).0 in
+    let c = bound (card_of (a ∷ b ∷ [])) _ _ h in
+    let x = Exact-card.takes (a ∷ b ∷ []) c.value c.first in
+    let r = taken (cards ++ c.value ∷ []) rest values c.then in
+    let space : s ≡ 32 = grind (arith, nat_tests) in
+    record { more = c.value ∷ r.more; is = r.is ∙ append_assoc cards (c.value ∷ []) r.more; text_is = rw (space, x.1, ← r.text_is) refl; all = (x.0, r.all) })
+    (λ none. absurd (no_value _ none))
 
 two : (text : List ℕ) → length text ≡ 2 → (a : ℕ) × (b : ℕ) × (text ≡ a ∷ b ∷ [])
 two [] e = absurd (omega arith)
@@ -123,11 +123,11 @@ few_more cards (a ∷ []) values few e = absurd (no_value _ e)
 few_more cards (a ∷ b ∷ []) values few e = absurd (no_value _ e)
 few_more cards (s ∷ a ∷ b ∷ rest) values few e =
     chosen (λ values. length values ≤ 5) (s == 32 && nat_lt (length cards) 5) _ None values e
-      (λ both h.
-        let room = ltb-true (length cards) 5 (both_true (s == 32) (nat_lt (length cards) 5) both).1 in
-        let c = bound (card_of (a ∷ b ∷ [])) _ _ h in
-        few_more (cards ++ c.value ∷ []) rest values (omega (arith, length-append cards (c.value ∷ []))) c.then)
-      (λ none. absurd (no_value _ none))
+    (λ both h.
+    let room = ltb-true (length cards) 5 (both_true (s == 32) (nat_lt (length cards) 5) both).1 in
+    let c = bound (card_of (a ∷ b ∷ [])) _ _ h in
+    few_more (cards ++ c.value ∷ []) rest values (omega (arith, length-append cards (c.value ∷ []))) c.then)
+    (λ none. absurd (no_value _ none))
 
 pub field_few : (text values : List ℕ) → cards_of text ≡ Some values → length values ≤ 5
 unfolding cards_of

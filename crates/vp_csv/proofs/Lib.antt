@@ -5,6 +5,7 @@ pub mod Fuel
 pub mod Isolation
 pub mod Names
 pub mod OneMore
+pub mod Places
 pub mod RecordLaws
 pub mod RowRules
 pub mod Rows

@@ -24,8 +24,8 @@ more_cards cards [] = Some cards
 more_cards cards (a ∷ []) = None
 more_cards cards (a ∷ b ∷ []) = None
 more_cards cards (s ∷ a ∷ b ∷ rest) = if s == 32 && nat_lt (length cards) 5 then (do
-    card ← card_of (a ∷ b ∷ [])
-    more_cards (cards ++ card ∷ []) rest) else None
+  card ← card_of (a ∷ b ∷ [])
+  more_cards (cards ++ card ∷ []) rest) else None
 
 -- the cards of a field, none where it is empty
 unfoldable pub cards_of : Field → Option (List ℕ)

@@ -2,34 +2,35 @@
 
 ghost use Rattle.std.specs.Prelude.{◌≡◌, ◌<◌, ◌++◌, ◌∷◌, ◌&&◌, [], true, None, Some, IfOk, IfErr, OnOk, is_some, length, map, nat_lt};
 ghost use Rattle.csv.specs.Records.{fields_of};
-ghost use Rattle.vp_csv.specs.Kept.{closed, game_line, kept_in, names_kept, opened, updated, with_text};
+ghost use Rattle.vp_csv.specs.Kept.{closed, game_line, kept_in, names_kept, opened, updated, with_text_at};
 ghost use Rattle.vp_csv.specs.Kept.{IsBehindHeader, IsRefusedHeader};
 ghost use Rattle.vp_csv.specs.Records.{records_in};
 ghost use Rattle.vp_csv.specs.Rules.{IsStop, break_behind, first_break, game_in, is_header, keeps_rule, start_in};
 ghost use Rattle.vp_csv.specs.Sessions.{behind_first};
 
 use crate::CsvStop;
-use crate::kept::{Kept, append, close_all, is_kept};
+use crate::kept::{Kept, append, close_all, place_of};
 use crate::records::Records;
 use crate::row::{Row, is_header, row_of};
 use csv::ByteRecord;
 use std::alloc::{AllocError, Global};
 use vp_pay::Name;
 
-/// Keeps a record of a session that is known, and tells whether it is a game.
+/// Keeps a record of the session at a place, and tells whether it is a game.
 fn take_game(
     sessions: &mut Vec<Kept>,
-    name: &Name,
+    place: usize,
     row: &Row,
     deck: u8,
 ) -> Result<bool, AllocError>
+    requires { place < length sessions.old.items }
     ensures game { IfOk result (λ kept. kept ≡ is_some (game_in deck row.now)) }
-    ensures keeps { IfOk result (λ kept. kept ≡ true → sessions.new.items ≡ map (with_text name.now (game_line (game_in deck row.now))) sessions.old.items) }
+    ensures keeps { IfOk result (λ kept. kept ≡ true → sessions.new.items ≡ with_text_at place (game_line (game_in deck row.now)) sessions.old.items) }
 {
     let Some(event) = row.game(deck) else {
         return Ok(false);
     };
-    append(sessions, name.text(), &event)?;
+    append(sessions, place, &event)?;
     Ok(true)
 }
 
@@ -74,10 +75,9 @@ fn take(
     let Some(name) = Name::read(row.session()) else {
         return Ok(false);
     };
-    if is_kept(sessions, name.text()) {
-        take_game(sessions, &name, &row, deck)
-    } else {
-        take_opening(alloc, sessions, name, &row)
+    match place_of(sessions, name.text()) {
+        Some(place) => take_game(sessions, place, &row, deck),
+        None => take_opening(alloc, sessions, name, &row),
     }
 }
 

@@ -20,7 +20,9 @@ pub(crate) fn told(alloc: Global, text: &[u8], deck: u8) -> Result<Vec<u8>, Fail
         let name = sessions.name(place);
         told.extend_from_slice(name.text()).ok().ok_or("memory")?;
         told.push(b'\n').ok().ok_or("memory")?;
-        told.extend_from_slice(sessions.log(place)).ok().ok_or("memory")?;
+        told.extend_from_slice(sessions.log(place))
+            .ok()
+            .ok_or("memory")?;
     }
     Ok(told)
 }

@@ -27,7 +27,9 @@ fn many(alloc: Global, sessions: u32, games: u32) -> Result<Vec<u8>, AllocError>
 #[test]
 fn a_thousand_sessions(rt: HostRuntime) -> Result<(), Fail> {
     let most = many(rt.alloc(), 1000, 0).ok().ok_or("memory")?;
-    let sessions = Sessions::read(rt.alloc(), most.as_slice(), 52).ok().ok_or("sessions")?;
+    let sessions = Sessions::read(rt.alloc(), most.as_slice(), 52)
+        .ok()
+        .ok_or("sessions")?;
     assert_eq!(rt; sessions.count(), 1000);
     let more = many(rt.alloc(), 1001, 0).ok().ok_or("memory")?;
     let stop = Sessions::read(rt.alloc(), more.as_slice(), 52).err();
@@ -37,11 +39,18 @@ fn a_thousand_sessions(rt: HostRuntime) -> Result<(), Fail> {
 
 #[test]
 fn records_up_to_the_last(rt: HostRuntime) -> Result<(), Fail> {
-    let most = many(rt.alloc(), 1, 399999).ok().ok_or("memory")?;
-    let sessions = Sessions::read(rt.alloc(), most.as_slice(), 52).ok().ok_or("sessions")?;
+    let text = many(rt.alloc(), 1, 399999).ok().ok_or("memory")?;
+    let sessions = Sessions::read(rt.alloc(), text.as_slice(), 52)
+        .ok()
+        .ok_or("sessions")?;
     assert_eq!(rt; sessions.count(), 1);
-    let more = many(rt.alloc(), 1, 400000).ok().ok_or("memory")?;
-    let stop = Sessions::read(rt.alloc(), more.as_slice(), 52).err();
+    Ok(())
+}
+
+#[test]
+fn a_record_too_many(rt: HostRuntime) -> Result<(), Fail> {
+    let text = many(rt.alloc(), 1, 400000).ok().ok_or("memory")?;
+    let stop = Sessions::read(rt.alloc(), text.as_slice(), 52).err();
     assert_eq!(rt; stop, Some(CsvStop::Record { place: 400002 }));
     Ok(())
 }

@@ -20,7 +20,9 @@ fn refused(alloc: Global, text: &[u8], deck: u8) -> u32
 /// The header and these records.
 fn behind_header(alloc: Global, records: &[u8]) -> Result<Vec<u8>, Fail> {
     let mut text = Vec::new(alloc);
-    text.extend_from_slice(b"session,bet,deal,hold,draw,pay,credits\n").ok().ok_or("memory")?;
+    text.extend_from_slice(b"session,bet,deal,hold,draw,pay,credits\n")
+        .ok()
+        .ok_or("memory")?;
     text.extend_from_slice(records).ok().ok_or("memory")?;
     Ok(text)
 }
@@ -74,16 +76,25 @@ fn each_record_keeps_its_rule(rt: HostRuntime) -> Result<(), Fail> {
         (3, b"a,,,,,,100\na,5,As Ks Qs Js 4s,,2c 2c 2c 2c 2c 2c,0,95"),
         (3, b"a,,,,,,100\na,5,As Ks Qs Js 4s,As Ks Qs Js,Jo,0,95"),
         (3, b"a,,,,,,100\na,5,As Ks Qs Js 4s,,,,95"),
-        (3, b"a,,,,,,100\na,5,As Ks Qs Js 4s,,,0,18446744073709551616"),
+        (
+            3,
+            b"a,,,,,,100\na,5,As Ks Qs Js 4s,,,0,18446744073709551616",
+        ),
         // Records are counted, and not lines.
-        (4, b"\n\na,,,,,,100\n\na,5,\"As Ks Qs Js 4s\",,,0,95\n\nb,5,As Ks Qs Js 4s,,,0,95"),
+        (
+            4,
+            b"\n\na,,,,,,100\n\na,5,\"As Ks Qs Js 4s\",,,0,95\n\nb,5,As Ks Qs Js 4s,,,0,95",
+        ),
         (2, b"\"a\n\",,,,,,100"),
     ];
     for (place, records) in texts {
         let text = behind_header(rt.alloc(), records)?;
         assert_eq!(rt; refused(rt.alloc(), text.as_slice(), 52), place);
     }
-    let joker = behind_header(rt.alloc(), b"a,,,,,,100\na,5,As Ks Qs Js 4s,As Ks Qs Js,Jo,0,95")?;
+    let joker = behind_header(
+        rt.alloc(),
+        b"a,,,,,,100\na,5,As Ks Qs Js 4s,As Ks Qs Js,Jo,0,95",
+    )?;
     assert!(rt; Sessions::read(rt.alloc(), joker.as_slice(), 53).is_ok());
     Ok(())
 }

@@ -81,8 +81,12 @@ game 1 deal 2c 2d 2h 2s 3c hold 2c 2d 2h 2s draw 4c pay 25 credits 33
 game 1 deal 2c 2d 2h 2s 3c hold 2c draw 3d 4d 5d 6d pay 0 credits 32
 end
 ";
-    let b = Sessions::read(rt.alloc(), first, 52).ok().ok_or("sessions")?;
-    let c = Sessions::read(rt.alloc(), second, 52).ok().ok_or("sessions")?;
+    let b = Sessions::read(rt.alloc(), first, 52)
+        .ok()
+        .ok_or("sessions")?;
+    let c = Sessions::read(rt.alloc(), second, 52)
+        .ok()
+        .ok_or("sessions")?;
     assert_eq!(rt; (b.count(), c.count()), (2, 2));
     assert_eq!(rt; b.name(1).text(), b"a".as_slice());
     assert_eq!(rt; b.log(1), log);
