@@ -1,3 +1,4 @@
+pub mod Breaks
 pub mod Closing
 pub mod Counts
 pub mod Field_cards

@@ -9,7 +9,7 @@ use Rattle.vp_loggram.specs.Sections.{log_at}
 use Rattle.vp_loggram.specs.Spelling.{event_words, key_number, log_text}
 use Rattle.vp_loggram.specs.declared.event.Event.{Event}
 use Rattle.vp_csv.specs.Records.{Record}
-use Rattle.vp_csv.specs.Rules.{name_of, names_of, start_of, game_of, is_header}
+use Rattle.vp_csv.specs.Rules.{name_of, names_of, start_of, game_of, is_header, IsHeadless}
 use Rattle.vp_csv.specs.declared.stop.CsvStop.{CsvStop}
 use Rattle.vp_csv.specs.declared.stop.CsvStop.TheVariants as stop
 use Rattle.vp_csv.specs.Sessions.{Session, Sorted, log_of, own, or_zero}
@@ -104,11 +104,6 @@ pub record AreKept (n : ℕ) (ks : List Kept) : Type 0 where
   pub all : AllByRecursion (IsKept n) ks
 
 -- ---- the header
-
--- no header is the first record
-abbrev pub IsHeadless : List Record → Type 0
-IsHeadless [] = Unit {0}
-IsHeadless (r ∷ rs) = is_header r ≡ false
 
 -- the first record is a header, and these are behind it
 abbrev pub IsBehindHeader : List Record → List Record → Type 0
