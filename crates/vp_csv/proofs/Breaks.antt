@@ -1,13 +1,12 @@
 -- The first record that breaks its rule.
-use Rattle.std.proofs.Common.{◌≡◌, ◌⊎◌, inl, inr, ℕ, ◌+◌, Bool, true, false, cond, List, [], ◌∷◌, ◌++◌, length, refl, sym, ap, subst, ◌∙◌, arith, Some, None, append_assoc}
-use Rattle.std.specs.Prelude.{◌↔◌, Option}
+use Rattle.std.proofs.Common.{◌≡◌, inl, inr, ℕ, ◌+◌, true, false, List, [], ◌∷◌, ◌++◌, length, refl, sym, ap, subst, ◌∙◌, Some, None, append_assoc}
+use Rattle.std.specs.Prelude.{◌↔◌}
 use Rattle.std.proofs.lemmas.Bool.{cases_Bool}
 use Rattle.std.proofs.lemmas.List.{append-nil}
 use Rattle.vp_text.specs.ExactReaders.{Keeps}
 use Rattle.vp_text.proofs.Pieces.{no_value, same_value}
-use Rattle.vp_text.proofs.Spelled.{head_is, tail_is}
 use Rattle.vp_csv.specs.Records.{Record}
-use Rattle.vp_csv.specs.Rules.{BreaksAt, BreaksFirst, IsHeadless, KeepRules, break_behind, first_break, is_header, may_follow}
+use Rattle.vp_csv.specs.Rules.{BreaksFirst, IsHeadless, KeepRules, break_behind, first_break, is_header, may_follow}
 
 abbrev Follows : ℕ → List Record → Record → Type 0
 Follows n front r = may_follow n front r ≡ true

@@ -1,5 +1,5 @@
 -- The cards of a field are read from their texts, with one space between, and from nothing else.
-use Rattle.std.proofs.Common.{◌≡◌, ◌≢◌, ℕ, ◌+◌, ◌<◌, ◌≤◌, Bool, true, false, cond, List, [], ◌∷◌, ◌++◌, map, length, get_or, drop, refl, sym, ap, ◌∙◌, arith, Some, None, append_assoc, length-append}
+use Rattle.std.proofs.Common.{◌≡◌, ◌≢◌, ℕ, ◌+◌, ◌<◌, ◌≤◌, List, [], ◌∷◌, ◌++◌, map, length, get_or, drop, refl, sym, ap, ◌∙◌, arith, Some, None, append_assoc, length-append}
 use Rattle.std.proofs.lemmas.Bool.{lt-ltb, ltb-true}
 use Rattle.std.specs.Prelude.{Option, ◌==◌, ◌&&◌, nat_lt}
 use Rattle.std.specs.List.{AllByRecursion}
@@ -7,7 +7,6 @@ use Rattle.std.proofs.lemmas.Bool.Decides.{nat_tests}
 use Rattle.std.proofs.lemmas.List.{append-nil}
 use Rattle.vp_card.specs.Texts.{card_text}
 use Rattle.vp_card.specs.Reading.{card_of}
-use Rattle.vp_text.specs.Pieces.{◌>>=◌}
 use Rattle.vp_text.specs.Written.{spaced}
 use Rattle.vp_text.proofs.Pieces.{bound, chosen, no_value, same_value, both_true}
 use Rattle.vp_text.proofs.Spelled.{tail_is}

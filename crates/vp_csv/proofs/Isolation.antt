@@ -1,5 +1,5 @@
 -- Sessions are told by their own records.
-use Rattle.std.proofs.Common.{◌≡◌, ◌<◌, ℕ, zero, suc, List, [], ◌∷◌, map, length, get_or, refl, sym, ap, subst, ◌∙◌, arith}
+use Rattle.std.proofs.Common.{◌≡◌, ◌<◌, ℕ, zero, suc, List, [], ◌∷◌, map, length, get_or, refl, sym, ap, ◌∙◌, arith}
 use Rattle.vp_text.specs.Lines.{Word}
 use Rattle.vp_csv.specs.Records.{Record, records_in}
 use Rattle.vp_csv.specs.Rules.{names_of}

@@ -1,7 +1,6 @@
 -- What one more record does to the sessions.
-use Rattle.std.proofs.Common.{◌≡◌, ℕ, Bool, true, false, cond, ◌||◌, List, [], ◌∷◌, ◌++◌, map, inl, inr, refl, sym, ap, subst, ◌∙◌, append_assoc, Some, None}
-use Rattle.std.specs.Prelude.{Option, bytes_eq, flat_map, option_to_list}
-use Rattle.std.specs.List.{list_any}
+use Rattle.std.proofs.Common.{◌≡◌, ℕ, Bool, true, false, ◌||◌, List, [], ◌∷◌, ◌++◌, map, inl, inr, refl, sym, ap, subst, ◌∙◌, append_assoc, Some, None}
+use Rattle.std.specs.Prelude.{Option, bytes_eq, option_to_list}
 use Rattle.std.proofs.lemmas.Bool.{cases_Bool}
 use Rattle.std.proofs.lemmas.Grind.{flat_map-append}
 use Rattle.std.proofs.lemmas.List.{append-nil, map-append}
@@ -9,11 +8,10 @@ use Rattle.std.proofs.lemmas.Slice.Eq.{bytes_eq-Decides}
 use Rattle.vp_text.specs.Lines.{Word}
 use Rattle.vp_text.specs.Written.{line_of, written}
 use Rattle.vp_text.proofs.Pieces.{same_bytes}
-use Rattle.vp_loggram.specs.Logs.{LogValue}
 use Rattle.vp_loggram.specs.Spelling.{event_words}
 use Rattle.vp_loggram.specs.declared.event.Event.{Event}
 use Rattle.vp_csv.specs.Records.{Record}
-use Rattle.vp_csv.specs.Rules.{game_of, knows, name_of, names_behind, names_of, start_of, with_name}
+use Rattle.vp_csv.specs.Rules.{game_of, knows, name_of, names_of, start_of}
 use Rattle.vp_csv.specs.Sessions.{games_of, log_of, or_zero, own}
 use Rattle.vp_csv.specs.Kept.{Kept, game_line, is_kept, kept_in, kept_of, names_kept, open_text, opened, start_line, updated, with_text, with_text_for}
 use Rattle.vp_csv.proofs.Names.{AllDiffer, IsOpened, known, names_differ, names_more, own_more, unknown}

@@ -1,5 +1,5 @@
 -- A record says what its fields spell, and nothing else.
-use Rattle.std.proofs.Common.{◌≡◌, ◌<◌, ◌≤◌, ◌^◌, ℕ, Bool, true, false, ◌&&◌, cond, eqb, List, [], ◌∷◌, ◌++◌, map, length, refl, sym, ap, ◌∙◌, arith, Some, None, eqb-true}
+use Rattle.std.proofs.Common.{◌≡◌, ◌<◌, ◌≤◌, ℕ, true, ◌&&◌, eqb, List, [], ◌∷◌, length, refl, sym, ap, ◌∙◌, arith, Some, None, eqb-true}
 use Rattle.std.specs.Prelude.{◌↔◌, Option, bytes_eq, codes, nat_lt}
 use Rattle.std.specs.Fmt.{decimal}
 use Rattle.std.specs.List.{AllByRecursion}
@@ -8,12 +8,10 @@ use Rattle.std.proofs.lemmas.Slice.Eq.{bytes_eq-Decides}
 use Rattle.vp_card.specs.Cards.{IsDeck, in_deck}
 use Rattle.vp_text.specs.Lines.{Word, is_empty}
 use Rattle.vp_text.specs.Numbers.{number_of, number_within}
-use Rattle.vp_text.specs.Pieces.{◌>>=◌}
 use Rattle.vp_text.proofs.Numbers.{number_exact, number_within_exact}
-use Rattle.vp_text.proofs.Pieces.{both_true, bound, chosen, no_value, same_value, same_bytes, so}
+use Rattle.vp_text.proofs.Pieces.{both_true, bound, chosen, no_value, same_value, so}
 use Rattle.vp_text.proofs.Spelled.{tail_is}
 use Rattle.vp_loggram.specs.Logs.{IsEvent, is_of_deck}
-use Rattle.vp_loggram.specs.Reading.{of_deck}
 use Rattle.vp_loggram.specs.declared.event.Event.{Event}
 use Rattle.vp_csv.specs.Fields.{Row, row_of, cards_of, five_of}
 use Rattle.vp_csv.specs.Records.{Field, Record}

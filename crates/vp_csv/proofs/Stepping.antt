@@ -1,14 +1,12 @@
 -- what one read does to the records that are left
-use Rattle.std.proofs.Common.{Bor, ◌≡◌, ◌<◌, ◌≤◌, ◌⊎◌, ℕ, zero, suc, ◌+◌, List, [], ◌∷◌, length, Option, Some, None, refl, sym, ap, subst, arith, ◌∙◌, true, false, inl, inr, Bool}
-use Rattle.std.specs.Prelude.{Result, Ok, Err, IfOk, IfErr, OnOk, not, ◌&&◌, ◌==◌, ◌++◌, drop, take, if◌then◌else◌}
+use Rattle.std.proofs.Common.{Bor, ◌≡◌, ℕ, suc, ◌+◌, List, [], ◌∷◌, length, Option, Some, None, refl, sym, ap, arith, ◌∙◌, true, false, inl, inr, Bool}
+use Rattle.std.specs.Prelude.{not, ◌&&◌, ◌==◌, ◌++◌, drop, take, if◌then◌else◌}
 use Rattle.std.proofs.lemmas.Bool.{cases_Bool}
 use Rattle.csv.specs.Machine.{Read, next_record}
-use Rattle.csv.specs.Reading.{records_from, records_next, source_of, pending_of, unread_of, default_config, ReadRecord, ReadsNext, NextIs, ReadsOn, Ready, Reached, strip_bom, has_failed, stops_reader, error_kind, reader_trim, took_first}
+use Rattle.csv.specs.Reading.{records_from, source_of, unread_of, default_config, ReadRecord, ReadsOn, Ready, Reached, strip_bom, has_failed, reader_trim, took_first}
 use Rattle.csv.specs.declared.reader.Reader.{Reader}
 use Rattle.csv.specs.declared.parser.State.{State}
-use Rattle.csv.specs.declared.parser.State.TheVariants as st
 use Rattle.csv.specs.declared.reader.Trim.TheVariants as trim
-use Rattle.csv.specs.declared.error.Error.{Error}
 use Rattle.csv.proofs.ReadFacts.{rows-end, rows-more}
 use Rattle.vp_csv.specs.Left.{left_from, left_of, Steps, IsSet, Keeps}
 use Rattle.vp_csv.specs.Records.{Record}

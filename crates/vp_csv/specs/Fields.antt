@@ -1,5 +1,5 @@
 -- The seven fields of a record, and how cards stand in a field: their texts, with one space between.
-use Rattle.std.specs.Prelude.{ℕ, ◌==◌, ◌&&◌, Bool, false, nat_lt, length, List, [], ◌∷◌, ◌++◌, Option, Some, None, bytes_eq, codes, if◌then◌else◌}
+use Rattle.std.specs.Prelude.{ℕ, ◌==◌, ◌&&◌, nat_lt, length, List, [], ◌∷◌, ◌++◌, Option, Some, None, if◌then◌else◌}
 use Rattle.vp_card.specs.Reading.{card_of}
 use Rattle.vp_text.specs.Pieces.{◌>>=◌}
 use Rattle.vp_csv.specs.Records.{Field, Record}

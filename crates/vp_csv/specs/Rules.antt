@@ -1,5 +1,5 @@
 -- Which records may stand in a log of many sessions, and which record breaks its rule first.
-use Rattle.std.specs.Prelude.{◌≡◌, ℕ, ◌+◌, ◌==◌, ◌&&◌, nat_lt, Bool, true, false, List, [], ◌∷◌, ◌++◌, length, Option, Some, None, is_some, ◌⊎◌, bytes_eq, codes, if◌then◌else◌}
+use Rattle.std.specs.Prelude.{◌≡◌, ℕ, ◌+◌, ◌&&◌, nat_lt, Bool, true, false, List, [], ◌∷◌, ◌++◌, length, Option, Some, None, is_some, ◌⊎◌, bytes_eq, codes, if◌then◌else◌}
 use Rattle.std.specs.List.{list_any}
 use Rattle.vp_text.specs.ExactReaders.{Keeps}
 use Rattle.vp_text.specs.Lines.{Word, is_empty}
@@ -8,7 +8,7 @@ use Rattle.vp_text.specs.Pieces.{◌>>=◌}
 use Rattle.vp_pay.specs.Names.{is_name}
 use Rattle.vp_loggram.specs.Reading.{of_deck}
 use Rattle.vp_loggram.specs.declared.event.Event.{Event}
-use Rattle.vp_csv.specs.Records.{Field, Record, records_in}
+use Rattle.vp_csv.specs.Records.{Record, records_in}
 use Rattle.vp_csv.specs.Fields.{Row, row_of, cards_of, five_of}
 use Rattle.vp_csv.specs.declared.stop.CsvStop.{CsvStop}
 use Rattle.vp_csv.specs.declared.stop.CsvStop.TheVariants as stop

@@ -19,13 +19,13 @@ end
 fn sessions_are_counted_and_named(rt: HostRuntime) -> Result<(), Fail> {
     let text: &[u8] = b"session,bet,deal,hold,draw,pay,credits
 lou-1,,,,,,1000000000000
-a,,,,,,0
+session,,,,,,0
 ";
     let sessions = Sessions::read(rt.alloc(), text, 52).ok().ok_or("sessions")?;
     assert_eq!(rt; sessions.count(), 2);
     assert_eq!(rt; sessions.name(0).text(), b"lou-1".as_slice());
     assert_eq!(rt; sessions.log(0), b"log 1000000000000\nend\n".as_slice());
-    assert_eq!(rt; sessions.name(1).text(), b"a".as_slice());
+    assert_eq!(rt; sessions.name(1).text(), b"session".as_slice());
     assert_eq!(rt; sessions.log(1), b"log 0\nend\n".as_slice());
     Ok(())
 }

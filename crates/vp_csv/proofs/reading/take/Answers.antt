@@ -1,8 +1,8 @@
-use Rattle.std.proofs.Common.{◌≡◌, refl, sym, ap, ◌∙◌, true, false, Some, None}
+use Rattle.std.proofs.Common.{◌≡◌, sym, ◌∙◌, Some, None}
 use Rattle.std.specs.List.{position}
 use Rattle.csv.specs.Records.{fields_of}
-use Rattle.vp_csv.specs.Fields.{Row, row_of}
-use Rattle.vp_csv.specs.Kept.{has_name, is_kept, names_kept}
+use Rattle.vp_csv.specs.Fields.{row_of}
+use Rattle.vp_csv.specs.Kept.{has_name, names_kept}
 use Rattle.vp_csv.specs.Rules.{game_in}
 use Rattle.vp_csv.specs.Kept.{game_line}
 use Rattle.vp_csv.proofs.Places.{found, not_found}

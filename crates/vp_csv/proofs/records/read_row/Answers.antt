@@ -1,7 +1,5 @@
-use Rattle.std.proofs.Common.{◌≡◌, ◌∙◌, refl, sym, Some, inl, inr, true, false}
 use Rattle.csv.specs.Reading.{stops_reader, error_kind}
 use Rattle.csv.specs.Records.{fields_of}
-use Rattle.vp_csv.specs.Left.{Keeps}
 use Rattle.vp_csv.proofs.Stepping.{steps, keeps_ok, keeps_err}
 use Rattle.vp_csv.proofs.records.read_row.Goals as goal
 
