@@ -83,7 +83,8 @@ pub(crate) fn place_of(sessions: &[Kept], name: &[u8]) -> Option<usize>
 /// Appends a game to the session at a place.
 pub(crate) fn append(sessions: &mut [Kept], place: usize, event: &Event) -> Result<(), AllocError>
     requires { place < length sessions.old }
-    ensures { OnOk result (sessions.new ≡ with_text_at place (line_of (event_words event.now)) sessions.old) }
+    ensures { OnOk result
+        (sessions.new ≡ with_text_at place (line_of (event_words event.now)) sessions.old) }
 {
     sessions[place].append(event)
 }

@@ -25,7 +25,8 @@ fn take_game(
 ) -> Result<bool, AllocError>
     requires { place < length sessions.old.items }
     ensures game { IfOk result (λ kept. kept ≡ is_some (game_in deck row.now)) }
-    ensures keeps { IfOk result (λ kept. kept ≡ true → sessions.new.items ≡ with_text_at place (game_line (game_in deck row.now)) sessions.old.items) }
+    ensures keeps { IfOk result (λ kept. kept ≡ true → sessions.new.items
+        ≡ with_text_at place (game_line (game_in deck row.now)) sessions.old.items) }
 {
     let Some(event) = row.game(deck) else {
         return Ok(false);
@@ -41,8 +42,10 @@ fn take_opening(
     name: Name,
     row: &Row,
 ) -> Result<bool, AllocError>
-    ensures opens { IfOk result (λ kept. kept ≡ (nat_lt (length sessions.old.items) 1000 && is_some (start_in row.now))) }
-    ensures keeps { IfOk result (λ kept. kept ≡ true → sessions.new.items ≡ sessions.old.items ++ opened name (start_in row.now) ∷ []) }
+    ensures opens { IfOk result
+        (λ kept. kept ≡ (nat_lt (length sessions.old.items) 1000 && is_some (start_in row.now))) }
+    ensures keeps { IfOk result (λ kept. kept ≡ true → sessions.new.items
+        ≡ sessions.old.items ++ opened name (start_in row.now) ∷ []) }
 {
     if sessions.len() >= 1000 {
         return Ok(false);
@@ -62,9 +65,11 @@ fn take(
     fields: &ByteRecord,
     deck: u8,
 ) -> Result<bool, AllocError>
-    ensures may { IfOk result (λ kept. kept ≡ keeps_rule deck count (names_kept sessions.old.items) (fields_of fields.now)) }
+    ensures may { IfOk result (λ kept. kept
+        ≡ keeps_rule deck count (names_kept sessions.old.items) (fields_of fields.now)) }
     ensures room { IfOk result (λ kept. kept ≡ true → count < 400000) }
-    ensures keeps { IfOk result (λ kept. kept ≡ true → sessions.new.items ≡ updated deck (fields_of fields.now) sessions.old.items) }
+    ensures keeps { IfOk result (λ kept. kept ≡ true → sessions.new.items
+        ≡ updated deck (fields_of fields.now) sessions.old.items) }
 {
     if count >= 400000 {
         return Ok(false);
@@ -102,7 +107,8 @@ fn read_behind(
     fields: &mut ByteRecord,
     deck: u8,
 ) -> Result<Vec<Kept>, CsvStop>
-    ensures read { IfOk result (λ v. (break_behind deck [] records.old ≡ None) × (v.items ≡ kept_in deck records.old)) }
+    ensures read { IfOk result (λ v. (break_behind deck [] records.old ≡ None)
+        × (v.items ≡ kept_in deck records.old)) }
     ensures refused { IfErr result (λ e. IsStop e (break_behind deck [] records.old)) }
 {
     let mut sessions = Vec::new(alloc);
@@ -127,7 +133,8 @@ fn read_behind(
 /// The sessions of a text, their logs not being ended.
 #[tactic(auto, unfolding(crate::specs::Rules::first_break))]
 pub(crate) fn read_kept(alloc: Global, bytes: &[u8], deck: u8) -> Result<Vec<Kept>, CsvStop>
-    ensures read { IfOk result (λ v. (first_break deck (records_in bytes.now) ≡ None) × (v.items ≡ kept_in deck (behind_first (records_in bytes.now)))) }
+    ensures read { IfOk result (λ v. (first_break deck (records_in bytes.now) ≡ None)
+        × (v.items ≡ kept_in deck (behind_first (records_in bytes.now)))) }
     ensures refused { IfErr result (λ e. IsStop e (first_break deck (records_in bytes.now))) }
 {
     let mut records = Records::new(alloc, bytes);
