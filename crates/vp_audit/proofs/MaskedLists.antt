@@ -15,7 +15,8 @@ use Rattle.vp_draws.specs.Draws.{best, least_best, sum_of_best, value}
 use Rattle.vp_draws.proofs.Chosen.{least_best_value, value_le_best}
 use Rattle.vp_rule.specs.Lists.{Exception, RulePool}
 use Rattle.vp_rule.specs.declared.rule.Rule.{Rule}
-use Rattle.vp_audit.specs.Audits.{deals, loss}
+use Rattle.vp_suit.specs.Laws.{deals}
+use Rattle.vp_audit.specs.Audits.{loss}
 use Rattle.vp_audit.specs.Compiled.{class_at, compiled_list, ordered}
 use Rattle.vp_audit.specs.Masked.{masked_exception, masked_list}
 use Rattle.vp_audit.specs.Values.{charged, deciding, excepted, least, least_value}

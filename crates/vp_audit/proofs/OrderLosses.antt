@@ -26,7 +26,8 @@ use Rattle.vp_compile.specs.Excepted.{ArePlaces, loss_at, loss_left}
 use Rattle.vp_compile.specs.Matrices.{IsOrder}
 use Rattle.vp_compile.proofs.OrderLaws.{order_below}
 use Rattle.vp_compile.proofs.Sums.{rises, sum_from, sum_from_is}
-use Rattle.vp_audit.specs.Audits.{deals, loss, lost}
+use Rattle.vp_suit.specs.Laws.{deals}
+use Rattle.vp_audit.specs.Audits.{loss, lost}
 use Rattle.vp_audit.specs.Compiled.{best_exception, class_at, class_row, compiled_list, ordered, ordered_list, pool_rows}
 use Rattle.vp_audit.specs.Sums.{priced, worth}
 use Rattle.vp_audit.specs.Values.{charged, deciding, excepted, least, least_value}

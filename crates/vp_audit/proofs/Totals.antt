@@ -9,7 +9,8 @@ use Rattle.vp_suit.proofs.Deals.{sum_by_classes}
 use Rattle.vp_pay.specs.declared.table.PayTable.{PayTable}
 use Rattle.vp_draws.proofs.TurnedValues.{best_by_classes}
 use Rattle.vp_rule.specs.Lists.{RuleList}
-use Rattle.vp_audit.specs.Audits.{audited, deals, is_ambiguous, is_by, loss, lost, only, tally}
+use Rattle.vp_suit.specs.Laws.{deals}
+use Rattle.vp_audit.specs.Audits.{audited, is_ambiguous, is_by, loss, lost, only, tally}
 use Rattle.vp_audit.specs.Sums.{sums_over, tally_over, worth}
 use Rattle.vp_audit.specs.Values.{decided, greatest_value, least_value, same}
 use Rattle.vp_audit.specs.declared.audited.Audited.{Audited}

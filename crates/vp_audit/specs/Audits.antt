@@ -1,7 +1,7 @@
 -- What a list loses against the best holds, over all deals.
 use Rattle.std.specs.Prelude.{ℕ, ◌+◌, ◌-◌, Bool, if◌then◌else◌, not, ◌==◌, List, length, map, sum_by, count_by}
 use Rattle.std.specs.List.{range_with_len}
-use Rattle.vp_sets.specs.Sets.{combos, deck}
+use Rattle.vp_suit.specs.Laws.{deals}
 use Rattle.vp_pay.specs.declared.table.PayTable.{PayTable}
 use Rattle.vp_draws.specs.Draws.{best, sum_of_best}
 use Rattle.vp_rule.specs.Lists.{RuleList}
@@ -10,10 +10,6 @@ use Rattle.vp_audit.specs.declared.priced.Decided.{Decided}
 use Rattle.vp_audit.specs.declared.priced.Decided.TheVariants.{Except, ByRule, Nothing}
 use Rattle.vp_audit.specs.declared.audited.Tally.{Tally}
 use Rattle.vp_audit.specs.declared.audited.Audited.{Audited}
-
--- all deals from a deck of n
-abbrev pub deals : ℕ → List (List ℕ)
-deals n = combos 5 (deck n)
 
 -- what the list loses on a deal
 unfoldable pub lost : PayTable → ℕ → RuleList → List ℕ → ℕ

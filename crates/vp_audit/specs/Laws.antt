@@ -13,7 +13,8 @@ use Rattle.vp_rule.specs.declared.rule.Rule.{Rule}
 use Rattle.vp_compile.specs.Excepted.{ArePlaces, loss_left}
 use Rattle.vp_compile.specs.Matrices.{IsOrder}
 use Rattle.vp_compile.specs.Rows.{order_loss, worth_at_best}
-use Rattle.vp_audit.specs.Audits.{audited, deals, loss, shared_deals, shared_loss}
+use Rattle.vp_suit.specs.Laws.{deals}
+use Rattle.vp_audit.specs.Audits.{audited, loss, shared_deals, shared_loss}
 use Rattle.vp_audit.specs.Compiled.{compiled_list, ordered_list, pool_rows}
 use Rattle.vp_audit.specs.Values.{decided, deciding, excepted, greatest_value, least_value, no_rule}
 

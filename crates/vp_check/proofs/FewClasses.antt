@@ -6,8 +6,7 @@ use Rattle.std.proofs.lemmas.List.Elements.{recursion_from_All}
 use Rattle.std.proofs.lemmas.List.Sums.{sum_by-cons}
 use Rattle.vp_card.specs.Cards.{IsDeck}
 use Rattle.vp_sets.specs.Sets.{choose}
-use Rattle.vp_sets.proofs.Binomials.{choose_le}
-use Rattle.vp_sets.proofs.Pascal.{ways_are}
+use Rattle.vp_sets.proofs.Pascal.{choose_five, ways_are}
 use Rattle.vp_suit.specs.Classes.{IsDeal, is_representative, representatives, weight}
 use Rattle.vp_suit.specs.Heaps.{card_heap, heap}
 use Rattle.vp_suit.proofs.Below.{below, below-plus, below-suc, below-times, below-zero}
@@ -164,5 +163,4 @@ four_classes n most =
 pub few_classes : (n : ℕ) → IsDeck n → length (representatives n) ≤ 1213290
 few_classes n is =
     let natural : choose 52 5 ≡ 2598960 = sym (ways_are 52 5 (lit≤ tt) (lit≤ tt)) in
-    let greatest : choose 54 5 ≡ 3162510 = sym (ways_are 54 5 (lit≤ tt) (lit≤ tt)) in
-    omega (arith, four_classes n is.0, natural, greatest, choose_le n 54 5 is.1)
+    omega (arith, four_classes n is.0, natural, choose_five n is.1)

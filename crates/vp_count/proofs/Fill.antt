@@ -9,11 +9,12 @@ use Rattle.std.proofs.lemmas.Bool.{cases_eq, or_cases, false≢true}
 use Rattle.vp_card.specs.Cards.{place}
 use Rattle.vp_sets.specs.Sets.{deck, choose, has, without}
 use Rattle.vp_sets.specs.Index.{IsSet, HasIndex, set_index, index_from, colex}
+use Rattle.vp_sets.proofs.Pascal.{choose_five}
 use Rattle.vp_sets.proofs.Spread.{has-none, has-later}
 use Rattle.vp_sets.proofs.Colex.{set_rises, set_below, index_lt, at_index, index_is}
 use Rattle.vp_count.specs.Sums.{number, containing}
 use Rattle.vp_count.specs.Table.{HasSums, above_sum, first_word, five_numbers}
-use Rattle.vp_count.proofs.Levels.{level_sum, sum_agree, containing_le, containing_five, choose_five, without_has}
+use Rattle.vp_count.proofs.Levels.{level_sum, sum_agree, containing_le, containing_five, without_has}
 use Rattle.vp_card.proofs.Rising.{length-place}
 use Rattle.vp_count.proofs.Scan.{index_below, word, set_place, above_is, word_is}
 use Rattle.vp_count.proofs.Words.{first_word-suc, first_word_next, first_word_mono}

@@ -13,8 +13,7 @@ use Rattle.vp_card.proofs.Rising.{joined-rising, place-first, place-later, place
 use Rattle.vp_sets.proofs.Decks.{rising-deck, length-deck}
 use Rattle.vp_sets.proofs.Holds.{rising-without}
 use Rattle.vp_sets.proofs.Sublists.{length-combos}
-use Rattle.vp_sets.proofs.Binomials.{choose-zero, choose_times}
-use Rattle.vp_sets.proofs.Colex.{set_rises, set_below, choose_up}
+use Rattle.vp_sets.proofs.Colex.{set_rises, set_below}
 use Rattle.vp_sets.proofs.Over.{less, over, over-zero, over-none, over-cons, over_is, over_agree}
 use Rattle.vp_sets.proofs.Spread.{has-none, has-here, has-later, has-cons, above_absent, less-none, less-here, less-later, less-absent, less-rises, less-keeps, only_with, over_with, above_member}
 use Rattle.vp_sets.proofs.Bridge.{within_deck, Within, with_all, has-place, with_alike, without-none, without-cons}
@@ -281,35 +280,3 @@ unfolding containing
 containing_le n w s m a =
     let b : sum_by (λ h. cond (has_all h s) (number w h) 0) (combos 5 (deck n)) ≤ length (combos 5 (deck n)) * m = sum_by-le (λ h. cond (has_all h s) (number w h) 0) m (combos 5 (deck n)) (λ k d l. number_le w m s (get_or (combos 5 (deck n)) k d) a) in
     subst (λ x. sum_by (λ h. cond (has_all h s) (number w h) 0) (combos 5 (deck n)) ≤ x * m) (length-combos 5 (deck n) ∙ ap (λ x. choose x 5) (length-deck n)) b
-
-pub choose_mono : (m d k : ℕ) → choose m k ≤ choose (m + d) k
-choose_mono m zero k =
-    let e : m + 0 ≡ m = omega arith in
-    let f : choose (m + 0) k ≡ choose m k = ap (λ x. choose x k) e in
-    omega arith
-choose_mono m (suc d) k =
-    let a : choose m k ≤ choose (m + d) k = choose_mono m d k in
-    let b : choose (suc (m + d)) k ≡ choose (m + suc d) k = ap (λ x. choose x k) (omega arith) in
-    omega (arith, choose_up (m + d) k)
-
-choose-54-1 : choose 54 1 ≡ 54
-choose-54-1 = omega (arith, choose_times 54 0, choose-zero 54)
-
-choose-54-2 : choose 54 2 ≡ 1431
-choose-54-2 = omega (arith, choose_times 54 1, choose-54-1)
-
-choose-54-3 : choose 54 3 ≡ 24804
-choose-54-3 = omega (arith, choose_times 54 2, choose-54-2)
-
-choose-54-4 : choose 54 4 ≡ 316251
-choose-54-4 = omega (arith, choose_times 54 3, choose-54-3)
-
-choose-54-5 : choose 54 5 ≡ 3162510
-choose-54-5 = omega (arith, choose_times 54 4, choose-54-4)
-
--- there are at most 3162510 sets of five
-pub choose_five : (n : ℕ) → n ≤ 54 → choose n 5 ≤ 3162510
-choose_five n l =
-    let a : choose n 5 ≤ choose (n + (54 - n)) 5 = choose_mono n (54 - n) 5 in
-    let b : choose (n + (54 - n)) 5 ≡ choose 54 5 = ap (λ x. choose x 5) (omega arith) in
-    omega (arith, choose-54-5)

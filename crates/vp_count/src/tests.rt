@@ -15,7 +15,7 @@ fn sum_of_a_deck(words: &mut [u64]) -> u64
     SumTable::fill(52, words).at(&[])
 }
 
-// Each of the 2598960 sets has the number 1. bench/deal takes the time of this test for that of the levels.
+// Each of the 2598960 sets has the number 1.
 #[test]
 fn levels_of_a_deck(rt: HostRuntime) -> Result<(), Fail> {
     let mut words = vec![in rt.alloc(); 1u64; table_words(52)]?;
@@ -27,6 +27,9 @@ fn levels_of_a_deck(rt: HostRuntime) -> Result<(), Fail> {
 #[test]
 fn sums_of_a_small_deck(rt: HostRuntime) {
     assert_eq!(rt; table_words(7), 120);
+    assert_eq!(rt; table_words(52), 2893164);
+    assert_eq!(rt; table_words(53), 3187368);
+    assert_eq!(rt; table_words(54), 3505051);
     let mut words = [1; 120];
     words[99 + 11] = 5;
     let table = SumTable::fill(7, &mut words);

@@ -5,8 +5,7 @@ use Rattle.std.specs.List.{sum_by}
 use Rattle.vp_card.specs.Cards.{IsDeck}
 use Rattle.vp_sets.specs.Sets.{deck, combos, choose}
 use Rattle.vp_sets.specs.Draws.{common}
-use Rattle.vp_sets.proofs.Binomials.{choose_le}
-use Rattle.vp_sets.proofs.Pascal.{ways_are}
+use Rattle.vp_sets.proofs.Pascal.{choose_five}
 use Rattle.vp_sets.proofs.Denominators.{common_small}
 use Rattle.vp_sets.proofs.Holds.{Dealt}
 use Rattle.vp_suit.proofs.Below.{below, below-zero, below-suc}
@@ -29,17 +28,11 @@ below_le : (x : ℕ → ℕ) (m n : ℕ) → ((i : ℕ) → i < n → x i ≤ m)
 below_le x m zero h = omega (arith, below-zero x)
 below_le x m (suc n) h = omega (arith, below-suc x n, below_le x m n (λ i l. h i (omega arith)), h n (omega arith), mul-suc m n)
 
--- how many deals there are, at most
-deals_few : (n : ℕ) → n ≤ 54 → choose n 5 ≤ 3162510
-deals_few n l =
-    let greatest : choose 54 5 ≡ 3162510 = sym (ways_are 54 5 (lit≤ tt) (lit≤ tt)) in
-    omega (arith, greatest, choose_le n 54 5 l)
-
 -- the greatest payment for every deal of a deck fits
-room : (n : ℕ) → IsDeck n → 500000 * common n * choose n 5 < 2 ^ 64
+pub room : (n : ℕ) → IsDeck n → 500000 * common n * choose n 5 < 2 ^ 64
 room n h =
     let x : 500000 * common n * choose n 5 ≤ 4280760000000 * choose n 5 = mul-le-mul_right (choose n 5) (omega (arith, common_small n h)) in
-    omega (arith, deals_few n h.1)
+    omega (arith, choose_five n h.1)
 
 pub sum_of_best_small : (table : PayTable) (coin : ℕ) → IsTable table → sum_of_best table coin ≤ 500000 * common table.deck * choose table.deck 5
 unfolding sum_of_best
@@ -58,6 +51,6 @@ sum_of_best_fits table coin t = omega (arith, sum_of_best_small table coin t, ro
 -- whatever the bet, it is below 2 to the power of 64
 pub denominator_fits : (n coin : ℕ) → IsDeck n → coin < 256 → choose n 5 * common n * coin < 2 ^ 64
 denominator_fits n coin d l =
-    let x : choose n 5 * common n ≤ 3162510 * common n = mul-le-mul_right (common n) (deals_few n d.1) in
+    let x : choose n 5 * common n ≤ 3162510 * common n = mul-le-mul_right (common n) (choose_five n d.1) in
     let y : choose n 5 * common n * coin ≤ choose n 5 * common n * 255 = mul-le-mul_left (choose n 5 * common n) (omega arith) in
     omega (arith, common_small n d)

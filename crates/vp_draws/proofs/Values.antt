@@ -42,7 +42,7 @@ value_is table coin hand mask = refl
 -- ---- means
 
 -- what a sum over the draws is scaled to is their mean over the common denominator
-scaled_mean : (n : ℕ) (hand : List ℕ) (mask sum : ℕ) → IsDeck n → Dealt n hand → IsMean n hand mask sum (sum * scale n (length (discarded mask hand)))
+pub scaled_mean : (n : ℕ) (hand : List ℕ) (mask sum : ℕ) → IsDeck n → Dealt n hand → IsMean n hand mask sum (sum * scale n (length (discarded mask hand)))
 scaled_mean n hand mask sum deck d =
     let k : ℕ = length (discarded mask hand) in
     let few : k ≤ 5 = omega (arith, length-held mask hand, d.five) in

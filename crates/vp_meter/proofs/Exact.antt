@@ -1,15 +1,11 @@
 -- Meters are exact at each whole payment.
 use Rattle.std.proofs.Common.{◌≡◌, ℕ, ◌+◌, ◌-◌, ◌*◌, ◌<◌, ◌≤◌, List, [], ◌∷◌, length, ap, refl, subst, sym, ◌∙◌, arith}
-use Rattle.std.proofs.Math.Nat.{mul_assoc}
 use Rattle.std.specs.List.{All}
 use Rattle.std.proofs.lemmas.List.Elements.{All-nil, All-cons}
-use Rattle.vp_sets.specs.Draws.{common, discarded, scale}
-use Rattle.vp_sets.specs.Sets.{choose}
-use Rattle.vp_sets.proofs.Denominators.{scale_exact}
-use Rattle.vp_sets.proofs.Holds.{length-draws, length-held}
 use Rattle.vp_draws.specs.Draws.{IsMean, best, total, value, sum_of_best}
 use Rattle.vp_draws.proofs.Chosen.{value_le_best}
 use Rattle.vp_draws.proofs.TurnedValues.{best_by_representative, carried_from}
+use Rattle.vp_draws.proofs.Values.{scaled_mean}
 use Rattle.vp_suit.specs.Classes.{IsDeal, least_turn, representative, representatives}
 use Rattle.vp_suit.specs.Turns.{carried}
 use Rattle.vp_suit.proofs.Deals.{deal_rises}
@@ -66,11 +62,7 @@ played m lo hi x cards bet from to deal =
 -- the value of each hold is its mean payment, however much the line pays
 mean_at : (m : Metering) (x mask : ℕ) (cards : List ℕ) → IsMetering m → IsDeal m.table.deck cards → IsMean m.table.deck cards mask (total (at_payment m x) m.coin cards mask) (value (at_payment m x) m.coin cards mask)
 unfolding value with_payment
-mean_at m x mask cards bet deal =
-    let d = dealt_is m.table.deck cards deal in
-    let k : ℕ = length (discarded mask cards) in
-    let exact : scale m.table.deck k * choose (m.table.deck - 5) k ≡ common m.table.deck = scale_exact m.table.deck k bet.bet.rules.known_deck (omega (arith, length-held mask cards, d.five)) in
-    rw (length-draws m.table.deck cards mask d) (mul_assoc (total (at_payment m x) m.coin cards mask) (scale m.table.deck k) (choose (m.table.deck - 5) k) ∙ ap (λ l. total (at_payment m x) m.coin cards mask * l) exact)
+mean_at m x mask cards bet deal = scaled_mean m.table.deck cards mask (total (at_payment m x) m.coin cards mask) bet.bet.rules.known_deck (dealt_is m.table.deck cards deal)
 
 -- and it is best
 pub played_best : (m : Metering) (lo hi x mask : ℕ) (cards : List ℕ) → IsMetering m → lo ≤ x → x ≤ hi → IsDeal m.table.deck cards → IsPlayed m lo hi x cards mask → IsBestAt m x cards mask

@@ -14,7 +14,8 @@ use Rattle.vp_suit.proofs.TurnedDraws.{dealt_is}
 use Rattle.vp_draws.specs.Draws.{best, least_best, sum_of_best, value2}
 use Rattle.vp_draws.proofs.TurnedValues.{best_by_classes}
 use Rattle.vp_draws.proofs.Bounds.{sum_of_best_fits}
-use Rattle.vp_multi.specs.Sums.{ArePowerSums, deals, printed_square, squared_value}
+use Rattle.vp_suit.specs.Laws.{deals}
+use Rattle.vp_multi.specs.Sums.{ArePowerSums, printed_square, squared_value}
 use Rattle.vp_multi.proofs.Printed.{own_square, printed_square_kept, squared_value_kept}
 use Rattle.vp_multi.proofs.DeckSums.{they_fit}
 

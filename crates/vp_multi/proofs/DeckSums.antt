@@ -9,7 +9,7 @@ use Rattle.vp_pay.specs.Table.{IsTable}
 use Rattle.vp_sets.specs.Sets.{choose, combos, deck}
 use Rattle.vp_sets.specs.Draws.{common}
 use Rattle.vp_sets.proofs.Decks.{length-deck}
-use Rattle.vp_sets.proofs.Denominators.{common-52, common-53, common-54, common_small, which_deck}
+use Rattle.vp_sets.proofs.Denominators.{common_small}
 use Rattle.vp_sets.proofs.Pascal.{ways_are}
 use Rattle.vp_sets.proofs.Sublists.{length-combos}
 use Rattle.vp_suit.specs.Classes.{representative}
@@ -18,9 +18,10 @@ use Rattle.vp_suit.proofs.Deals.{deal, deal_is, sum_of_deals}
 use Rattle.vp_suit.proofs.ClassLaws.{representative_deal}
 use Rattle.vp_suit.proofs.TurnedDraws.{dealt_is}
 use Rattle.vp_draws.specs.Draws.{best, least_best, sum_of_best}
-use Rattle.vp_draws.proofs.Bounds.{best_small}
+use Rattle.vp_draws.proofs.Bounds.{best_small, room}
 use Rattle.vp_draws.proofs.Values.{value2_small}
-use Rattle.vp_multi.specs.Sums.{deals, printed_square, squared_value, first_moment, second_moment, variance_within, mean_sum, second_sum, within_sum, between_sum}
+use Rattle.vp_suit.specs.Laws.{deals}
+use Rattle.vp_multi.specs.Sums.{printed_square, squared_value, first_moment, second_moment, variance_within, mean_sum, second_sum, within_sum, between_sum}
 use Rattle.vp_multi.proofs.Tuples.{parts_law}
 use Rattle.vp_multi.proofs.Squares.{square_of_sum}
 use Rattle.vp_multi.proofs.DealMoments.{within_fits}
@@ -104,15 +105,6 @@ variance_has_two_parts table coin k t =
     rw (mean_is table coin k, second_is table coin k, inside) (parts_law n k a s q l (omega (arith, within_is table coin t)) (between_fits table coin))
 
 -- ---- they fit
-
-room : (n : ℕ) → IsDeck n → 500000 * common n * choose n 5 < 2 ^ 64
-room n d = elim (which_deck n d) as (λ _. 500000 * common n * choose n 5 < 2 ^ 64) [
-  | inl e ↦ rw (e, common-52, sym (ways_are 52 5 (lit≤ tt) (lit≤ tt))) (lit< tt)
-  | inr r ↦ elim r as (λ _. 500000 * common n * choose n 5 < 2 ^ 64) [
-    | inl e ↦ rw (e, common-53, sym (ways_are 53 5 (lit≤ tt) (lit≤ tt))) (lit< tt)
-    | inr e ↦ rw (e, common-54, sym (ways_are 54 5 (lit≤ tt) (lit≤ tt))) (lit< tt)
-  ]
-]
 
 pub record TheyFit (n s q : ℕ) : Type 0 where
   pub squares : s < 2 ^ 83

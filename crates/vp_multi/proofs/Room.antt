@@ -9,7 +9,8 @@ use Rattle.vp_sets.specs.Draws.{common}
 use Rattle.vp_sets.proofs.Denominators.{common_small}
 use Rattle.vp_draws.specs.Draws.{sum_of_best}
 use Rattle.vp_draws.proofs.Bounds.{sum_of_best_fits}
-use Rattle.vp_multi.specs.Sums.{ArePowerSums, deals, printed_square, squared_value, mean_sum, second_sum, within_sum, between_sum}
+use Rattle.vp_suit.specs.Laws.{deals}
+use Rattle.vp_multi.specs.Sums.{ArePowerSums, printed_square, squared_value, mean_sum, second_sum, within_sum, between_sum}
 use Rattle.vp_multi.proofs.DeckSums.{mean_is, second_is, within_is, between_fits, they_fit}
 
 -- each step from the sums over all deals to the moments of k hands fits 128 bits

@@ -1,14 +1,11 @@
 -- The moments of k hands, summed over all deals.
 use Rattle.std.specs.Prelude.{◌≡◌, ℕ, ◌+◌, ◌-◌, ◌*◌, List, sum_by}
 use Rattle.vp_pay.specs.declared.table.PayTable.{PayTable}
-use Rattle.vp_sets.specs.Sets.{choose, combos, deck}
+use Rattle.vp_sets.specs.Sets.{choose}
 use Rattle.vp_sets.specs.Draws.{common}
 use Rattle.vp_suit.specs.Classes.{representative}
+use Rattle.vp_suit.specs.Laws.{deals}
 use Rattle.vp_draws.specs.Draws.{best, least_best, sum_of_best, value2}
-
--- all deals from a deck of n
-abbrev pub deals : ℕ → List (List ℕ)
-deals n = combos 5 (deck n)
 
 -- the mean square of the payments of a deal's printed holds, over the common denominator: that of the representative's least best hold
 unfoldable pub printed_square : PayTable → ℕ → List ℕ → ℕ

@@ -82,7 +82,7 @@ some_set set is [] e =
     in absurd cc
 some_set set is (byte ∷ text) e = omega arith
 
-plain_set : (set : ℕ) → is_rank_set set ≡ true → IsPlainWord (rank_set_text set)
+pub plain_set : (set : ℕ) → is_rank_set set ≡ true → IsPlainWord (rank_set_text set)
 plain_set set is = high_word (rank_set_text set) (some_set set is (rank_set_text set) refl) (set_high set)
 
 -- ---- lines

@@ -15,7 +15,7 @@ use Rattle.vp_pay.specs.Spelling.{pay_line_words, table_text}
 use Rattle.vp_pay.specs.Table.{IsTable}
 use Rattle.vp_pay.specs.declared.table.PayLine.{PayLine}
 use Rattle.vp_pay.specs.declared.table.PayTable.{PayTable}
-use Rattle.vp_pay.proofs.Plain.{plain_card, plain_table}
+use Rattle.vp_pay.proofs.Plain.{plain_card, plain_set, plain_table}
 use Rattle.vp_pay.proofs.Tables.{of_all}
 use Rattle.vp_rule.specs.Lists.{Exception, RuleList, RulePool}
 use Rattle.vp_rule.specs.Spelling.{except_words, list_text, name_at, pool_text, rule_words, test_words, version_words}
@@ -23,45 +23,6 @@ use Rattle.vp_rule.specs.Valid.{IsException, IsList, IsPool, IsRule, IsTest}
 use Rattle.vp_rule.specs.declared.rule.Rule.{Rule}
 use Rattle.vp_rule.specs.declared.rule.Test.{Test}
 use Rattle.vp_rule.specs.declared.rule.Test.TheVariants.{Hold, Wilds, Suited, Mixed, Royal, Windows, Count, Equal, Ranks, Made, Left, LeftSuit}
-
--- ---- sets of ranks
-
-held_high : (mask : ℕ) (letters : List ℕ) → AreHigh letters → AreHigh (held mask letters)
-held_high mask [] high = tt
-held_high mask (letter ∷ letters) high = by_bit (mask % 2 == 1) (held_high (mask / 2) letters high.1)
-  where
-    by_bit : (odd : Bool) → AreHigh (held (mask / 2) letters) → AreHigh (cond odd (letter ∷ held (mask / 2) letters) (held (mask / 2) letters))
-    by_bit true rest = (high.0, rest)
-    by_bit false rest = rest
-
-letters_high : AreHigh rank_letters
-unfolding rank_letters
-letters_high = are_high rank_letters refl
-
-any_high : AreHigh any_text
-unfolding any_text
-any_high = are_high any_text refl
-
-set_high : (set : ℕ) → AreHigh (rank_set_text set)
-unfolding rank_set_text
-set_high set = by_all (set == 8191)
-  where
-    by_all : (all : Bool) → AreHigh (cond all any_text (held set rank_letters))
-    by_all true = any_high
-    by_all false = held_high set rank_letters letters_high
-
-no_empty_set : rank_set_of [] ≡ None
-unfolding rank_set_of rank_letters any_text
-no_empty_set = refl
-
-some_set : (set : ℕ) → is_rank_set set ≡ true → (text : Word) → rank_set_text set ≡ text → 0 < length text
-some_set set is [] e =
-    let read : None ≡ Some set = sym no_empty_set ∙ (ap rank_set_of (sym e) ∙ rank_set_of-text set is) in
-    absurd cc
-some_set set is (byte ∷ text) e = omega arith
-
-plain_set : (set : ℕ) → is_rank_set set ≡ true → IsPlainWord (rank_set_text set)
-plain_set set is = high_word (rank_set_text set) (some_set set is (rank_set_text set) refl) (set_high set)
 
 -- ---- the names of pay lines stand in the table's plain text
 

@@ -32,7 +32,8 @@ use Rattle.vp_compile.specs.Rows.{Row, row_at, value_loss}
 use Rattle.vp_compile.proofs.OrderLaws.{order_kept_at}
 use Rattle.vp_check.proofs.FewClasses.{few_classes}
 use Rattle.vp_check.proofs.ShortTexts.{room, room-cons, room_lines, short_table, two_words, written-append}
-use Rattle.vp_audit.specs.Audits.{audited, deals, loss}
+use Rattle.vp_suit.specs.Laws.{deals}
+use Rattle.vp_audit.specs.Audits.{audited, loss}
 use Rattle.vp_audit.specs.Masked.{masked_list}
 use Rattle.vp_audit.specs.Compiled.{best_exception, ordered_list}
 use Rattle.vp_audit.specs.Values.{least_value}

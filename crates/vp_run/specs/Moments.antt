@@ -8,7 +8,8 @@ use Rattle.vp_sets.specs.Sets.{choose}
 use Rattle.vp_suit.specs.Classes.{IsDeal}
 use Rattle.vp_draws.specs.Draws.{best, value, value2}
 use Rattle.vp_multi.specs.Moments.{AreMoments, IsPrintedHold}
-use Rattle.vp_multi.specs.Sums.{deals, first_moment, printed_square, second_moment, squared_value, variance_within}
+use Rattle.vp_suit.specs.Laws.{deals}
+use Rattle.vp_multi.specs.Sums.{first_moment, printed_square, second_moment, squared_value, variance_within}
 use Rattle.vp_answer.specs.Answers.{Answer}
 use Rattle.vp_answer.specs.declared.status.Status.TheVariants.{Done}
 use Rattle.vp_run.specs.Answer.{answer}
@@ -27,7 +28,7 @@ pub record HasMoments (d : Drawn) (cards : List ℕ) (mask : ℕ) : Type 0 where
   pub unique : (first second : ℕ) → AreMoments d.table d.coin d.hands cards mask first second
       → (first ≡ first_moment d.table d.coin d.hands cards) × (second ≡ second_moment d.table d.coin d.hands cards)
 
--- The answer are the four lines of the moments. Each deal has a printed hold, and each printed hold has the deal's moments; the printed
+-- The answer is the four lines of the moments. Each deal has a printed hold, and each printed hold has the deal's moments; the printed
 -- mean, second moment and variance within are their sums over all deals; and the variance, which is what the second moment times the number of deals
 -- exceeds the square of the mean, is that within the draws of a deal for each hand, and that between the deals for each two hands
 pub record PrintsMoments (d : Drawn) (due : Answer) : Type 0 where

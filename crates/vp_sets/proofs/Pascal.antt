@@ -1,7 +1,8 @@
 -- The table of choices has Pascal's numbers, and among them those of draws.
-use Rattle.std.proofs.Common.{◌≡◌, ℕ, zero, suc, ◌+◌, ◌-◌, ◌<◌, ◌≤◌, refl, ap, sym, ◌∙◌, arith, List, [], ◌∷◌, length, get_or, take, drop, map}
+use Rattle.std.proofs.Common.{lit≤, ◌≡◌, ℕ, zero, suc, ◌+◌, ◌-◌, ◌<◌, ◌≤◌, refl, ap, sym, ◌∙◌, arith, List, [], ◌∷◌, length, get_or, take, drop, map}
 use Rattle.std.proofs.lemmas.List.{get_or-map, get_or-take, get_or-drop}
 use Rattle.vp_sets.specs.Sets.{choose}
+use Rattle.vp_sets.proofs.Binomials.{choose_le}
 use Rattle.vp_sets.specs.Draws.{draw_counts}
 use Rattle.vp_sets.specs.declared.ways.TheConstants.{WAYS}
 
@@ -62,3 +63,9 @@ draw_counts_are n l = sym (row_is (n - 5) (omega arith))
 pub draw_count_at : (n k : ℕ) → k ≤ 5 → get_or (draw_counts n) k 0 ≡ choose (n - 5) k
 unfolding draw_counts row
 draw_count_at n k l = column (n - 5) k l
+
+-- there are at most 3162510 sets of five
+pub choose_five : (n : ℕ) → n ≤ 54 → choose n 5 ≤ 3162510
+choose_five n l =
+    let greatest : choose 54 5 ≡ 3162510 = sym (ways_are 54 5 (lit≤ tt) (lit≤ tt)) in
+    omega (arith, greatest, choose_le n 54 5 l)

@@ -1,9 +1,10 @@
 //! Sublists of a deck, their numbers, the hands that they are, and the numbers by which sums over draws become expected payments.
 #![tactic(auto)]
 
-ghost use Rattle.std.specs.Prelude.{ℕ, ◌≡◌, ◌⊎◌, ◌-◌, ◌*◌, ◌%◌, ◌<◌, ◌≤◌};
+ghost use Rattle.std.specs.Prelude.{ℕ, ◌≡◌, ◌-◌, ◌*◌, ◌%◌, ◌<◌, ◌≤◌, ◌==◌};
+ghost use Rattle.std.specs.List.{list_all};
 ghost use Rattle.vp_card.specs.Cards.{IsDeck};
-ghost use Rattle.vp_sets.specs.Draws.{common, scale};
+ghost use Rattle.vp_sets.specs.Draws.{common, draw_counts, scale};
 ghost use Rattle.vp_sets.specs.Sets.{choose};
 
 mod hands;
@@ -37,17 +38,41 @@ pub fn common(n: u8) -> u64
     denominator(n)
 }
 
-/// The common denominator, by the number of jokers.
+/// The common denominator, sought among the multiples of the number of draws of five cards.
 fn denominator(n: u8) -> u64
     requires { IsDeck n }
     ensures value { result ≡ common n }
     ensures some { 0 < result }
 {
-    match n {
-        52 => 7669695,
-        53 => 8561520,
-        _ => 3813768,
+    let step = choose(n - 5, 5);
+    let mut number = step;
+    while !is_divided(number, n) {
+        number += step;
     }
+    number
+}
+
+/// Whether a number is divided by the numbers of draws of all holds.
+#[tactic(auto, using(crate::proofs::Denominators::five_parts))]
+fn is_divided(number: u64, n: u8) -> bool
+    requires { IsDeck n }
+    ensures { result ≡ list_all (λ draws. number % draws == 0) (draw_counts n) }
+{
+    is_divided_at(number, n, 1)
+        && is_divided_at(number, n, 2)
+        && is_divided_at(number, n, 3)
+        && is_divided_at(number, n, 4)
+        && is_divided_at(number, n, 5)
+}
+
+/// Whether a number is divided by the number of draws of `k` cards.
+#[tactic(auto, using(crate::proofs::Binomials::choose_pos))]
+fn is_divided_at(number: u64, n: u8, k: u8) -> bool
+    requires deck { IsDeck n }
+    requires drawn { k ≤ 5 }
+    ensures { result ≡ (number % choose (n - 5) k == 0) }
+{
+    number % choose(n - 5, k) == 0
 }
 
 /// By what the sum of payments over all draws of `k` cards is multiplied, to stand over the common

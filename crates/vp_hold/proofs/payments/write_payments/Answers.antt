@@ -2,8 +2,8 @@ use Rattle.std.proofs.Common.{◌≡◌, ◌+◌, ◌≤◌, ◌<◌, ◌-◌, �
 use Rattle.vp_pay.specs.declared.table.PayTable.{PayTable}
 use Rattle.vp_sets.specs.Sets.{choose}
 use Rattle.vp_sets.specs.Index.{HasIndex}
+use Rattle.vp_sets.proofs.Pascal.{choose_five}
 use borrow.Rule.Slice.PartMut.{put_mid}
-use Rattle.vp_count.proofs.Levels.{choose_five}
 use Rattle.vp_count.proofs.Scan.{set_wider}
 use Rattle.vp_count.specs.Runs.{run}
 use Rattle.vp_wild.specs.Kept.{Bet}
