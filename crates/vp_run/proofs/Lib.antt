@@ -2,6 +2,7 @@ pub mod AuditLines
 pub mod NoCommand
 pub mod PrintedLosses
 pub mod PrintedMoments
+pub mod PrintedChances
 pub mod CommandWords
 pub mod CheckInputs
 pub mod FittingBets

@@ -8,6 +8,7 @@ mod check;
 mod command;
 mod compile;
 mod deal;
+mod hits;
 mod job;
 mod laws;
 mod meter;
@@ -24,9 +25,9 @@ pub use laws::{
     certificates_tell_every_deal, certify_inputs_are_read, check_inputs_are_read,
     checks_in_parts_tell_every_deal, commands_are_spelled, compile_inputs_are_read,
     compiled_lists_are_audited, compiled_lists_lose_little, deal_inputs_are_read,
-    deals_print_best_holds, meter_inputs_are_read, meters_are_told, multi_inputs_are_read,
-    multis_print_moments, play_inputs_are_read, plays_are_replayed, replay_inputs_are_read,
-    replays_tell_costs, usage_is_for_no_command,
+    deals_print_best_holds, hits_inputs_are_read, hits_print_chances, meter_inputs_are_read,
+    meters_are_told, multi_inputs_are_read, multis_print_moments, play_inputs_are_read,
+    plays_are_replayed, replay_inputs_are_read, replays_tell_costs, usage_is_for_no_command,
 };
 pub use serve::{in_region, region_words, served};
 pub use top::{vpoker, vpoker_in_blocks};

@@ -6,6 +6,7 @@ mod check;
 mod compile;
 mod deal;
 mod faults;
+mod hits;
 mod meter;
 mod multi;
 mod play;

@@ -1,7 +1,7 @@
 use Rattle.std.proofs.Common.{◌≡◌, ◌+◌, ◌-◌, ◌≤◌, ◌∙◌, ap, subst, sym, arith, ℕ, List, length, map, get_or}
 use Rattle.vp_pay.specs.declared.table.PayTable.{PayTable}
 use borrow.Rule.Slice.PartMut.{put_mid}
-use Rattle.vp_count.proofs.Levels.{choose_five}
+use Rattle.vp_sets.proofs.Pascal.{choose_five}
 use Rattle.vp_count.proofs.Scan.{set_wider}
 use Rattle.vp_count.specs.Runs.{run}
 use Rattle.vp_count.proofs.HandNumbers.{Written, written_start, written_room, written_more, written_done, written_whole}
