@@ -5,6 +5,7 @@ pub mod PrintedCrosses
 pub mod NoCommand
 pub mod PrintedLosses
 pub mod PrintedMoments
+pub mod PrintedChances
 pub mod CommandWords
 pub mod CheckInputs
 pub mod FittingBets

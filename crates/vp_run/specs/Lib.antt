@@ -2,6 +2,7 @@ pub mod Commands
 pub mod Deal
 pub mod Certify
 pub mod Multi
+pub mod Hits
 pub mod Play
 pub mod Compile
 pub mod Check
@@ -20,3 +21,4 @@ pub mod Played
 pub mod PrintedLists
 pub mod Losses
 pub mod Moments
+pub mod Chances

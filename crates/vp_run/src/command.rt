@@ -41,6 +41,8 @@ pub enum Task {
         coin: u8,
         hands: u8,
     },
+    /// `hits COIN`: how often each pay line comes under the printed holds, for a bet of 1 to 5 coins.
+    Hits(u8),
     /// `play COIN SEED GAMES`: the numbers of a log of 1 to 100000 games that is made from a seed, for a bet of 1 to 5
     /// coins.
     Play {
@@ -104,6 +106,7 @@ fn task_of(word: &str, numbers: &[&str]) -> Option<Task>
         "check" => lines(numbers),
         "meter" => meter(numbers),
         "multi" => hands(numbers),
+        "hits" => bet(numbers).map(Task::Hits),
         "play" => play(numbers),
         "compile" => compile(numbers),
         _ => None,

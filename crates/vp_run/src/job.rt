@@ -3,7 +3,7 @@
 ghost use Rattle.std.specs.Prelude.{◌≡◌, ◌≤◌, length};
 ghost use Rattle.vp_loggram.specs.Logs.{IsLog};
 ghost use Rattle.vp_pay.specs.Table.{IsTable};
-ghost use Rattle.vp_run.specs.Answer.{certify_job, check_read, deal_job, job_of, log_read, read_as, replay_read, meter_job, audit_job, cross_job, multi_job, play_job, compile_job};
+ghost use Rattle.vp_run.specs.Answer.{certify_job, check_read, deal_job, job_of, log_read, read_as, replay_read, meter_job, audit_job, cross_job, multi_job, play_job, compile_job, hits_job};
 ghost use Rattle.vp_run.specs.Audit.{audit_input};
 ghost use Rattle.vp_run.specs.Certify.{certify_input};
 ghost use Rattle.vp_run.specs.Cross.{cross_input};
@@ -12,6 +12,7 @@ ghost use Rattle.vp_run.specs.Deal.{deal_input};
 ghost use Rattle.vp_run.specs.Replay.{replay_input};
 ghost use Rattle.vp_run.specs.Meter.{meter_input};
 ghost use Rattle.vp_run.specs.Multi.{multi_input};
+ghost use Rattle.vp_run.specs.Hits.{hits_input};
 ghost use Rattle.vp_run.specs.Play.{play_input};
 ghost use Rattle.vp_run.specs.Compile.{compile_input};
 
@@ -22,6 +23,7 @@ use crate::command::Task;
 use crate::compile::{CompileJob, read_compile_input};
 use crate::cross::{CrossJob, read_cross_input};
 use crate::deal::{DealJob, read_deal_input};
+use crate::hits::HitsJob;
 use crate::meter::{MeterJob, read_meter_input};
 use crate::multi::MultiJob;
 use crate::play::PlayJob;
@@ -45,6 +47,7 @@ pub enum Job<'a> {
     Replay(ReplayJob<'a>),
     Meter(MeterJob),
     Multi(MultiJob),
+    Hits(HitsJob),
     Play(PlayJob),
     Compile(CompileJob),
 }
@@ -69,6 +72,7 @@ impl<'a> Work for Job<'a> {
             Job::Replay(job) => job.words(),
             Job::Meter(job) => job.words(),
             Job::Multi(job) => job.words(),
+            Job::Hits(job) => job.words(),
             Job::Play(job) => job.words(),
             Job::Compile(job) => job.words(),
         }
@@ -84,6 +88,7 @@ impl<'a> Work for Job<'a> {
             Job::Replay(job) => job.put(region, sink),
             Job::Meter(job) => job.put(region, sink),
             Job::Multi(job) => job.put(region, sink),
+            Job::Hits(job) => job.put(region, sink),
             Job::Play(_) | Job::Compile(_) => unreachable!(),
         }
     }
@@ -120,6 +125,7 @@ pub(crate) fn job_of(task: Task, bytes: &[u8]) -> Result<Job<'_>, Stop>
         Task::Replay => replay_job(bytes),
         Task::Meter { coin, line, lo, hi } => meter_job(coin, &line, lo, hi, bytes),
         Task::Multi { coin, hands } => multi_job(coin, hands, bytes),
+        Task::Hits(coin) => hits_job(coin, bytes),
         Task::Play { coin, seed, games } => play_job(coin, seed, games, bytes),
         Task::Compile { coin, millionths } => compile_job(coin, millionths, bytes),
     }
@@ -169,6 +175,17 @@ fn multi_job(coin: u8, hands: u8, bytes: &[u8]) -> Result<Job<'_>, Stop>
 {
     match read_certify_input(bytes, coin) {
         Ok(table) => Ok(Job::Multi(MultiJob::new(table, coin, hands))),
+        Err(refused) => Err(Stop::Refused { line: refused.line }),
+    }
+}
+
+fn hits_job(coin: u8, bytes: &[u8]) -> Result<Job<'_>, Stop>
+    requires some { 1 ≤ coin }
+    requires limit { length bytes.now ≤ 67108864 }
+    ensures { result ≡ read_as (hits_job coin) (hits_input coin bytes.now) }
+{
+    match read_certify_input(bytes, coin) {
+        Ok(table) => Ok(Job::Hits(HitsJob::new(table, coin))),
         Err(refused) => Err(Stop::Refused { line: refused.line }),
     }
 }

@@ -14,6 +14,8 @@ ghost use Rattle.vp_run.specs.EveryDeal.{CertificatesAreChecked, CertificatesTel
 ghost use Rattle.vp_run.specs.Meter.{MeterInputsAreRead};
 ghost use Rattle.vp_run.specs.Moments.{MultisPrintMoments};
 ghost use Rattle.vp_run.specs.Multi.{MultiInputsAreRead};
+ghost use Rattle.vp_run.specs.Chances.{HitsPrintChances};
+ghost use Rattle.vp_run.specs.Hits.{HitsInputsAreRead};
 ghost use Rattle.vp_run.specs.Play.{PlayInputsAreRead};
 ghost use Rattle.vp_run.specs.Played.{PlaysAreReplayed};
 ghost use Rattle.vp_run.specs.Losses.{AuditsPrintLosses};
@@ -67,6 +69,12 @@ pub fn crosses_price_play()
 /// else. Every other input is refused, exactly at its refused line.
 pub fn multi_inputs_are_read()
     ensures { MultiInputsAreRead }
+{}
+
+/// What `hits` takes for its input is what the lines of the input spell: a valid pay table that has the bet, and nothing
+/// else. Every other input is refused, exactly at its refused line.
+pub fn hits_inputs_are_read()
+    ensures { HitsInputsAreRead }
 {}
 
 /// What `play` takes for its input is what the lines of the input spell: a valid pay table that has the bet, and nothing
@@ -169,6 +177,13 @@ pub fn audits_print_losses()
 /// once for each pair of hands.
 pub fn multis_print_moments()
     ensures { MultisPrintMoments }
+{}
+
+/// The answer of `hits` to each pay table that it takes prints the chances of the pay lines under the printed holds: each
+/// deal has a printed hold, and all that it has are best and end with each line as often; the printed numbers are the sums
+/// of these chances over all deals. Together with that of no line they make all draws, and what the lines pay is the return.
+pub fn hits_print_chances()
+    ensures { HitsPrintChances }
 {}
 
 /// What `compile` takes for its input is what the lines of the input spell: a valid pay table that has the bet, then a pool

@@ -7,6 +7,7 @@ mod compile;
 mod cross;
 mod deal;
 mod faults;
+mod hits;
 mod meter;
 mod multi;
 mod play;
