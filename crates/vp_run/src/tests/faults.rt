@@ -54,12 +54,17 @@ fn every_write_fails_once(rt: HostRuntime) -> Result<(), Fail> {
 // The first read brings the input, and the second its end. The texts have two lines or more, which are a write each.
 #[test]
 fn faults_of_each_command(rt: HostRuntime) -> Result<(), Fail> {
-    let cases: [(&[&str], &[u8], &[u8]); 6] = [
+    let cases: [(&[&str], &[u8], &[u8]); 7] = [
         (&["audit", "1"], ONE_JOKER, b"list\nrule hold 1\nend\n"),
-        (&["compile", "1", "0"], ONE_JOKER, b"pool\nrule hold 1\nend\n"),
+        (
+            &["compile", "1", "0"],
+            ONE_JOKER,
+            b"pool\nrule hold 1\nend\n",
+        ),
         (&["replay"], ONE_JOKER, b"log 7\nend\n"),
         (&["meter", "1", "joker", "0", "1"], ONE_JOKER, b""),
         (&["multi", "1", "2"], ONE_JOKER, b""),
+        (&["hits", "1"], ONE_JOKER, b""),
         (&["play", "1", "0", "1"], ZERO, b""),
     ];
     for (words, table, section) in cases {
