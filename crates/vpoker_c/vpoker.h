@@ -44,9 +44,9 @@ enum {
  * *taken is room_len, and the room is full of the text's beginning; with room enough this code never comes. With the
  * others *taken is 0. What is behind the first *taken bytes of the room is as it was. No zero byte ends the text.
  *
- * How much room: 4 KiB for deal, check, multi and tables, 16 KiB for audit, 8000000 bytes for certify, more for meter; the
- * texts of replay and sessions grow with the logs. These are not proved; where a room was too small, call again with more. The answer
- * depends on nothing but the words and the input.
+ * How much room: 4 KiB for deal, check, multi, play and tables, 16 KiB for audit, 8000000 bytes for certify and compile,
+ * more for meter; the texts of replay and sessions grow with the logs. These are not proved; where a room was too small,
+ * call again with more. The answer depends on nothing but the words and the input.
  *
  * A caller owes that
  * - none of the four pointers is null, not even for 0 bytes;
@@ -59,8 +59,10 @@ enum {
  *
  * The words, the input and the room stay the caller's. It keeps no pointer, no memory and no state between calls, so
  * threads may call it at the same time, each with a room of its own. During a call it takes memory from malloc: a copy of
- * the input, room_len bytes, and what the command takes (22 MB for deal, certify and audit, 110 MB at most, for replay;
- * for sessions as much, and its logs, which are somewhat longer than the CSV text).
+ * the input, room_len bytes, and what the command takes: a table of sums has 23 MB for 52 cards and 28 MB for 54; deal,
+ * certify and audit take one, multi two, meter two and at most 16 MB more, replay one for each column of the pay table,
+ * sessions as many and its logs, which are somewhat longer than the CSV text, play one more than that and its log,
+ * compile one and at most 93 MB more, check and tables none.
  */
 uint8_t vpoker_answer(const uint8_t *words, size_t words_len, const uint8_t *input, size_t input_len, uint8_t *room,
                       size_t room_len, size_t *taken);

@@ -1,11 +1,11 @@
 -- The texts of sessions, when their logs are ended, are the spellings of their logs.
-use Rattle.std.proofs.Common.{◌≡◌, ◌<◌, ◌≤◌, ◌+◌, ℕ, zero, suc, get_or, Bool, true, false, List, [], ◌∷◌, ◌++◌, map, length, refl, sym, ap, subst, ◌∙◌, arith, Some, None, append_assoc}
-use Rattle.std.specs.Prelude.{Option, Result, Ok, Err, codes, option_to_list, flat_map, if◌then◌else◌}
+use Rattle.std.proofs.Common.{◌≡◌, ◌<◌, ◌≤◌, ℕ, zero, suc, get_or, Bool, true, false, List, [], ◌∷◌, ◌++◌, map, length, refl, sym, ap, subst, ◌∙◌, arith, Some, None, append_assoc}
+use Rattle.std.specs.Prelude.{Option, Ok, codes, option_to_list, if◌then◌else◌}
 use Rattle.std.specs.List.{AllByRecursion}
 use Rattle.std.proofs.lemmas.Grind.{flat_map-append}
 use Rattle.std.proofs.lemmas.List.{append-nil}
 use Rattle.vp_card.specs.Cards.{IsDeck}
-use Rattle.vp_text.specs.Lines.{Word, Feed, feed_of}
+use Rattle.vp_text.specs.Lines.{Word, feed_of}
 use Rattle.vp_text.specs.Sections.{Starts}
 use Rattle.vp_text.specs.Written.{line_of, written}
 use Rattle.vp_pay.specs.Written.{IsReadAgain, StandsIn}
@@ -16,10 +16,10 @@ use Rattle.vp_loggram.specs.declared.event.Event.{Event}
 use Rattle.vp_loggram.proofs.Logs_grammar.{Exact-log}
 use Rattle.vp_loggram.proofs.Log_laws.{written_again}
 use Rattle.vp_csv.specs.Records.{Record}
-use Rattle.vp_csv.specs.Rules.{break_behind, first_break, game_of, is_header, names_of, refused_record, start_of}
-use Rattle.vp_csv.specs.Sessions.{Session, Sorted, behind_first, games_of, log_of, or_zero, own, session_of, sessions_in, sessions_of}
-use Rattle.vp_csv.specs.Kept.{AreKept, IsKept, Kept, closed, kept_in, kept_of, log_in, log_or_none, open_text, said_by, sorted_of, start_line}
-use Rattle.vp_csv.proofs.Counts.{AreFew, few_events, few_records}
+use Rattle.vp_csv.specs.Rules.{break_behind, first_break, game_of, is_header, names_of, start_of}
+use Rattle.vp_csv.specs.Sessions.{Session, behind_first, games_of, log_of, or_zero, own, session_of, sessions_in}
+use Rattle.vp_csv.specs.Kept.{AreKept, IsKept, Kept, closed, kept_in, kept_of, log_in, open_text, said_by, sorted_of, start_line}
+use Rattle.vp_csv.proofs.Counts.{few_events, few_records}
 use Rattle.vp_csv.proofs.RecordLaws as laws
 use Rattle.vp_csv.proofs.Sizes.{log_short}
 

@@ -1,7 +1,6 @@
 -- Records that keep their rules are at most 400000, of at most 1000 sessions.
-use Rattle.std.proofs.Common.{◌≡◌, ◌<◌, ◌≤◌, ◌+◌, ℕ, Bool, true, false, cond, List, [], ◌∷◌, ◌++◌, length, refl, sym, ap, subst, ◌∙◌, arith, Some, None, nat_lt, ◌&&◌, append_assoc, length-append, inl, inr}
-use Rattle.std.specs.Prelude.{Option, bytes_eq, is_some, option_to_list, flat_map}
-use Rattle.std.specs.List.{filter}
+use Rattle.std.proofs.Common.{◌≡◌, ◌≤◌, ◌+◌, ℕ, Bool, true, false, cond, List, [], ◌∷◌, ◌++◌, length, sym, subst, arith, Some, None, nat_lt, ◌&&◌, append_assoc, length-append, inl, inr}
+use Rattle.std.specs.Prelude.{Option, bytes_eq, is_some, option_to_list}
 use Rattle.std.proofs.lemmas.Bool.{cases_Bool, ltb-true}
 use Rattle.std.proofs.lemmas.List.{append-nil}
 use Rattle.vp_text.specs.Lines.{Word}
@@ -9,7 +8,7 @@ use Rattle.vp_text.proofs.Pieces.{both_true, no_value}
 use Rattle.vp_pay.specs.Names.{is_name}
 use Rattle.vp_loggram.specs.declared.event.Event.{Event}
 use Rattle.vp_csv.specs.Records.{Record}
-use Rattle.vp_csv.specs.Rules.{break_behind, game_of, keeps_rule, knows, may_follow, name_of, names_behind, names_of, start_of, with_name}
+use Rattle.vp_csv.specs.Rules.{break_behind, game_of, knows, may_follow, name_of, names_behind, names_of, start_of}
 use Rattle.vp_csv.specs.Sessions.{games_of, log_of, own}
 use Rattle.vp_csv.proofs.Names.{names_more}
 

@@ -1,5 +1,5 @@
 -- The cards of a field are read from their texts, with one space between, and from nothing else.
-use Rattle.std.proofs.Common.{◌≡◌, ◌≢◌, ℕ, ◌+◌, ◌<◌, ◌≤◌, Bool, true, false, cond, List, [], ◌∷◌, ◌++◌, map, length, get_or, drop, refl, sym, ap, ◌∙◌, arith, Some, None, append_assoc, length-append}
+use Rattle.std.proofs.Common.{◌≡◌, ◌≢◌, ℕ, ◌+◌, ◌<◌, ◌≤◌, List, [], ◌∷◌, ◌++◌, map, length, get_or, drop, refl, sym, ap, ◌∙◌, arith, Some, None, append_assoc, length-append}
 use Rattle.std.proofs.lemmas.Bool.{lt-ltb, ltb-true}
 use Rattle.std.specs.Prelude.{Option, ◌==◌, ◌&&◌, nat_lt}
 use Rattle.std.specs.List.{AllByRecursion}
@@ -7,7 +7,6 @@ use Rattle.std.proofs.lemmas.Bool.Decides.{nat_tests}
 use Rattle.std.proofs.lemmas.List.{append-nil}
 use Rattle.vp_card.specs.Texts.{card_text}
 use Rattle.vp_card.specs.Reading.{card_of}
-use Rattle.vp_text.specs.Pieces.{◌>>=◌}
 use Rattle.vp_text.specs.Written.{spaced}
 use Rattle.vp_text.proofs.Pieces.{bound, chosen, no_value, same_value, both_true}
 use Rattle.vp_text.proofs.Spelled.{tail_is}
@@ -33,14 +32,14 @@ taken cards (a ∷ []) values e = absurd (no_value _ e)
 taken cards (a ∷ b ∷ []) values e = absurd (no_value _ e)
 taken cards (s ∷ a ∷ b ∷ rest) values e =
     chosen (λ values. Read cards (s ∷ a ∷ b ∷ rest) values) (s == 32 && nat_lt (length cards) 5) _ None values e
-      (λ both h.
-        let is = (both_true (s == 32) (nat_lt (length cards) 5) both).0 in
-        let c = bound (card_of (a ∷ b ∷ [])) _ _ h in
-        let x = Exact-card.takes (a ∷ b ∷ []) c.value c.first in
-        let r = taken (cards ++ c.value ∷ []) rest values c.then in
-        let space : s ≡ 32 = grind (arith, nat_tests) in
-        record { more = c.value ∷ r.more; is = r.is ∙ append_assoc cards (c.value ∷ []) r.more; text_is = rw (space, x.1, ← r.text_is) refl; all = (x.0, r.all) })
-      (λ none. absurd (no_value _ none))
+    (λ both h.
+    let is = (both_true (s == 32) (nat_lt (length cards) 5) both).0 in
+    let c = bound (card_of (a ∷ b ∷ [])) _ _ h in
+    let x = Exact-card.takes (a ∷ b ∷ []) c.value c.first in
+    let r = taken (cards ++ c.value ∷ []) rest values c.then in
+    let space : s ≡ 32 = grind (arith, nat_tests) in
+    record { more = c.value ∷ r.more; is = r.is ∙ append_assoc cards (c.value ∷ []) r.more; text_is = rw (space, x.1, ← r.text_is) refl; all = (x.0, r.all) })
+    (λ none. absurd (no_value _ none))
 
 two : (text : List ℕ) → length text ≡ 2 → (a : ℕ) × (b : ℕ) × (text ≡ a ∷ b ∷ [])
 two [] e = absurd (omega arith)
@@ -123,11 +122,11 @@ few_more cards (a ∷ []) values few e = absurd (no_value _ e)
 few_more cards (a ∷ b ∷ []) values few e = absurd (no_value _ e)
 few_more cards (s ∷ a ∷ b ∷ rest) values few e =
     chosen (λ values. length values ≤ 5) (s == 32 && nat_lt (length cards) 5) _ None values e
-      (λ both h.
-        let room = ltb-true (length cards) 5 (both_true (s == 32) (nat_lt (length cards) 5) both).1 in
-        let c = bound (card_of (a ∷ b ∷ [])) _ _ h in
-        few_more (cards ++ c.value ∷ []) rest values (omega (arith, length-append cards (c.value ∷ []))) c.then)
-      (λ none. absurd (no_value _ none))
+    (λ both h.
+    let room = ltb-true (length cards) 5 (both_true (s == 32) (nat_lt (length cards) 5) both).1 in
+    let c = bound (card_of (a ∷ b ∷ [])) _ _ h in
+    few_more (cards ++ c.value ∷ []) rest values (omega (arith, length-append cards (c.value ∷ []))) c.then)
+    (λ none. absurd (no_value _ none))
 
 pub field_few : (text values : List ℕ) → cards_of text ≡ Some values → length values ≤ 5
 unfolding cards_of

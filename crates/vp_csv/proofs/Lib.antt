@@ -1,3 +1,4 @@
+pub mod Breaks
 pub mod Closing
 pub mod Counts
 pub mod Field_cards
@@ -5,6 +6,7 @@ pub mod Fuel
 pub mod Isolation
 pub mod Names
 pub mod OneMore
+pub mod Places
 pub mod RecordLaws
 pub mod RowRules
 pub mod Rows

@@ -1,7 +1,7 @@
 -- The names of records: a name is one of them exactly where a record has it.
-use Rattle.std.proofs.Common.{◌≡◌, ◌⊎◌, inl, inr, ℕ, Bool, true, false, cond, ◌||◌, List, [], ◌∷◌, ◌++◌, refl, sym, ap, ◌∙◌, subst}
+use Rattle.std.proofs.Common.{◌≡◌, ◌⊎◌, inl, inr, Bool, true, false, cond, ◌||◌, List, [], ◌∷◌, ◌++◌, refl, sym, ◌∙◌, subst}
 use Rattle.std.specs.Prelude.{bytes_eq}
-use Rattle.std.specs.List.{list_any, filter}
+use Rattle.std.specs.List.{list_any}
 use Rattle.std.proofs.lemmas.Bool.{cases_Bool}
 use Rattle.std.proofs.lemmas.List.Elements.{filter-append}
 use Rattle.std.proofs.lemmas.List.Folds.{list_any-append}
@@ -98,3 +98,33 @@ unknown name names (r ∷ rs) h = elim (cases_Bool (bytes_eq name (name_of r))) 
       absurd cc
   | inr other ↦ rw other (unknown name (with_name names (name_of r)) rs h)
 ]
+
+-- ---- no name stands twice
+
+abbrev pub AllDiffer : List Word → Type 0
+AllDiffer [] = Unit {0}
+AllDiffer (name ∷ names) = (knows name names ≡ false) × AllDiffer names
+
+neither : (a b : Bool) → (a || b) ≡ false → (a ≡ false) × (b ≡ false)
+neither true b e = absurd cc
+neither false b e = (refl, e)
+
+last_differs : (names : List Word) (name : Word) → AllDiffer names → knows name names ≡ false → AllDiffer (names ++ name ∷ [])
+last_differs [] name differ none = (refl, tt)
+last_differs (first ∷ names) name differ none =
+    let parts = neither (bytes_eq first name) (knows name names) none in
+    (list_any-append (λ n. bytes_eq n first) names (name ∷ []) ∙ rw (differ.0, differ_sym first name parts.0) refl, last_differs names name differ.1 parts.1)
+
+with_name_differs : (names : List Word) (name : Word) → AllDiffer names → AllDiffer (with_name names name)
+with_name_differs names name differ = elim (cases_Bool (knows name names)) [
+  | inl old ↦ rw old differ
+  | inr new ↦ rw new (last_differs names name differ new)
+]
+
+all_differ : (names : List Word) (rs : List Record) → AllDiffer names → AllDiffer (names_behind names rs)
+unfolding names_behind
+all_differ names [] differ = differ
+all_differ names (r ∷ rs) differ = all_differ (with_name names (name_of r)) rs (with_name_differs names (name_of r) differ)
+
+pub names_differ : (rs : List Record) → AllDiffer (names_of rs)
+names_differ rs = all_differ [] rs tt

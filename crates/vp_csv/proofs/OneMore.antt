@@ -1,7 +1,6 @@
 -- What one more record does to the sessions.
-use Rattle.std.proofs.Common.{◌≡◌, ℕ, Bool, true, false, cond, ◌||◌, List, [], ◌∷◌, ◌++◌, map, inl, inr, refl, sym, ap, subst, ◌∙◌, append_assoc, Some, None}
-use Rattle.std.specs.Prelude.{Option, bytes_eq, flat_map, option_to_list}
-use Rattle.std.specs.List.{list_any}
+use Rattle.std.proofs.Common.{◌≡◌, ℕ, Bool, true, false, ◌||◌, List, [], ◌∷◌, ◌++◌, map, inl, inr, refl, sym, ap, subst, ◌∙◌, append_assoc, Some, None}
+use Rattle.std.specs.Prelude.{Option, bytes_eq, option_to_list}
 use Rattle.std.proofs.lemmas.Bool.{cases_Bool}
 use Rattle.std.proofs.lemmas.Grind.{flat_map-append}
 use Rattle.std.proofs.lemmas.List.{append-nil, map-append}
@@ -9,14 +8,13 @@ use Rattle.std.proofs.lemmas.Slice.Eq.{bytes_eq-Decides}
 use Rattle.vp_text.specs.Lines.{Word}
 use Rattle.vp_text.specs.Written.{line_of, written}
 use Rattle.vp_text.proofs.Pieces.{same_bytes}
-use Rattle.vp_loggram.specs.Logs.{LogValue}
 use Rattle.vp_loggram.specs.Spelling.{event_words}
 use Rattle.vp_loggram.specs.declared.event.Event.{Event}
 use Rattle.vp_csv.specs.Records.{Record}
-use Rattle.vp_csv.specs.Rules.{game_of, knows, name_of, names_behind, names_of, start_of, with_name}
+use Rattle.vp_csv.specs.Rules.{game_of, knows, name_of, names_of, start_of}
 use Rattle.vp_csv.specs.Sessions.{games_of, log_of, or_zero, own}
-use Rattle.vp_csv.specs.Kept.{Kept, game_line, is_kept, kept_in, kept_of, names_kept, open_text, opened, start_line, updated, with_text}
-use Rattle.vp_csv.proofs.Names.{IsOpened, known, names_more, own_more, unknown}
+use Rattle.vp_csv.specs.Kept.{Kept, game_line, is_kept, kept_in, kept_of, names_kept, open_text, opened, start_line, updated, with_text, with_text_for}
+use Rattle.vp_csv.proofs.Names.{AllDiffer, IsOpened, known, names_differ, names_more, own_more, unknown}
 
 -- ---- the text of a session
 
@@ -44,33 +42,45 @@ kept name text = record { name = name; text = text }
 
 -- ---- a game of a session that is known
 
-one_more : (n : ℕ) (rs : List Record) (r : Record) → IsOpened (name_of r) rs → (name : Word) → kept_of n (rs ++ r ∷ []) name ≡ with_text (name_of r) (game_line (game_of n r)) (kept_of n rs name)
+mine : (n : ℕ) (rs : List Record) (r : Record) → IsOpened (name_of r) rs → (name : Word) → bytes_eq name (name_of r) ≡ true
+    → kept_of n (rs ++ r ∷ []) name ≡ with_text (game_line (game_of n r)) (kept_of n rs name)
 unfolding kept_of
-one_more n rs r opened name = elim (cases_Bool (bytes_eq name (name_of r))) [
-  | inl is ↦
-      let same : name ≡ name_of r = (bytes_eq-Decides name (name_of r)).0 is in
-      let mine : own name rs ≡ opened.opening ∷ opened.games = subst (λ (m : Word). own m rs ≡ opened.opening ∷ opened.games) (sym same) opened.is in
-      rw (own_more name rs r, is, mine) (ap (kept name) (text_more n opened.opening opened.games r))
-  | inr other ↦ rw (own_more name rs r, other, append-nil (own name rs)) refl
-]
+mine n rs r opened name is =
+    let same : name ≡ name_of r = (bytes_eq-Decides name (name_of r)).0 is in
+    let own : own name rs ≡ opened.opening ∷ opened.games = subst (λ (m : Word). own m rs ≡ opened.opening ∷ opened.games) (sym same) opened.is in
+    rw (own_more name rs r, is, own) (ap (kept name) (text_more n opened.opening opened.games r))
 
-all_more : (n : ℕ) (rs : List Record) (r : Record) → IsOpened (name_of r) rs → (names : List Word)
-    → map (kept_of n (rs ++ r ∷ [])) names ≡ map (with_text (name_of r) (game_line (game_of n r))) (map (kept_of n rs) names)
-all_more n rs r opened [] = refl
-all_more n rs r opened (name ∷ names) = rw (one_more n rs r opened name, all_more n rs r opened names) refl
+other : (n : ℕ) (rs : List Record) (r : Record) (name : Word) → bytes_eq name (name_of r) ≡ false → kept_of n (rs ++ r ∷ []) name ≡ kept_of n rs name
+unfolding kept_of
+other n rs r name differ = rw (own_more name rs r, differ, append-nil (own name rs)) refl
 
--- ---- a record that opens a session
-
-abbrev neither : (a b : Bool) → (a || b) ≡ false → (a ≡ false) × (b ≡ false)
+neither : (a b : Bool) → (a || b) ≡ false → (a ≡ false) × (b ≡ false)
 neither true b e = absurd cc
 neither false b e = (refl, e)
 
 as_before : (n : ℕ) (rs : List Record) (r : Record) (names : List Word) → knows (name_of r) names ≡ false → map (kept_of n (rs ++ r ∷ [])) names ≡ map (kept_of n rs) names
-unfolding kept_of
 as_before n rs r [] none = refl
 as_before n rs r (name ∷ names) none =
     let parts = neither (bytes_eq name (name_of r)) (knows (name_of r) names) none in
-    rw (own_more name rs r, parts.0, append-nil (own name rs), as_before n rs r names parts.1) refl
+    rw (other n rs r name parts.0, as_before n rs r names parts.1) refl
+
+kept_name : (n : ℕ) (rs : List Record) (name : Word) → (kept_of n rs name).name ≡ name
+unfolding kept_of
+kept_name n rs name = refl
+
+all_more : (n : ℕ) (rs : List Record) (r : Record) → IsOpened (name_of r) rs → (names : List Word) → AllDiffer names
+    → map (kept_of n (rs ++ r ∷ [])) names ≡ with_text_for (name_of r) (game_line (game_of n r)) (map (kept_of n rs) names)
+unfolding with_text_for kept_of
+all_more n rs r opened [] differ = refl
+all_more n rs r opened (name ∷ names) differ = elim (cases_Bool (bytes_eq name (name_of r))) [
+  | inl is ↦
+      let same : name ≡ name_of r = (bytes_eq-Decides name (name_of r)).0 is in
+      let rest : knows (name_of r) names ≡ false = subst (λ (m : Word). knows m names ≡ false) same differ.0 in
+      rw (kept_name n rs name, is, mine n rs r opened name is, as_before n rs r names rest) refl
+  | inr not_mine ↦ rw (kept_name n rs name, not_mine, other n rs r name not_mine, all_more n rs r opened names differ.1) refl
+]
+
+-- ---- a record that opens a session
 
 opens : (n : ℕ) (rs : List Record) (r : Record) → own (name_of r) rs ≡ [] → kept_of n (rs ++ r ∷ []) (name_of r) ≡ opened (name_of r) (start_of r)
 unfolding kept_of
@@ -93,7 +103,7 @@ unfolding kept_in
 names_are n rs = names_of_kept n rs (names_of rs)
 
 was_opened : (rs : List Record) (name : Word) → knows name (names_of rs) ≡ true → IsOpened name rs
-was_opened rs name old = elim (known name [] rs old) [ | inl before ↦ absurd cc | inr opened ↦ opened ]
+was_opened rs name old = elim (known name [] rs old) [ inl before ↦ absurd cc | inr opened ↦ opened ]
 
 pub updates : (n : ℕ) (rs : List Record) (r : Record) → kept_in n (rs ++ r ∷ []) ≡ updated n r (kept_in n rs)
 unfolding kept_in updated
@@ -101,9 +111,9 @@ updates n rs r =
     let names = names_of rs in
     let name = name_of r in
     elim (cases_Bool (knows name names)) [
-      | inl old ↦ rw (names_more [] rs r, old, is_known n rs name names, old) (all_more n rs r (was_opened rs name old) names)
+      | inl old ↦ rw (names_more [] rs r, old, is_known n rs name names, old) (all_more n rs r (was_opened rs name old) names (names_differ rs))
       | inr new ↦
           let last : kept_of n (rs ++ r ∷ []) name ≡ opened name (start_of r) = opens n rs r (unknown name [] rs new) in
           rw (names_more [] rs r, new, is_known n rs name names, new)
-            (map-append (kept_of n (rs ++ r ∷ [])) names (name ∷ []) ∙ rw (as_before n rs r names new, last) refl)
+          (map-append (kept_of n (rs ++ r ∷ [])) names (name ∷ []) ∙ rw (as_before n rs r names new, last) refl)
     ]

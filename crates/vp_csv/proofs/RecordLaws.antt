@@ -1,5 +1,5 @@
 -- A record says what its fields spell, and nothing else.
-use Rattle.std.proofs.Common.{◌≡◌, ◌<◌, ◌≤◌, ◌^◌, ℕ, Bool, true, false, ◌&&◌, cond, eqb, List, [], ◌∷◌, ◌++◌, map, length, refl, sym, ap, ◌∙◌, arith, Some, None, eqb-true}
+use Rattle.std.proofs.Common.{◌≡◌, ◌<◌, ◌≤◌, ℕ, true, ◌&&◌, eqb, List, [], ◌∷◌, length, refl, sym, ap, ◌∙◌, arith, Some, None, eqb-true}
 use Rattle.std.specs.Prelude.{◌↔◌, Option, bytes_eq, codes, nat_lt}
 use Rattle.std.specs.Fmt.{decimal}
 use Rattle.std.specs.List.{AllByRecursion}
@@ -8,12 +8,10 @@ use Rattle.std.proofs.lemmas.Slice.Eq.{bytes_eq-Decides}
 use Rattle.vp_card.specs.Cards.{IsDeck, in_deck}
 use Rattle.vp_text.specs.Lines.{Word, is_empty}
 use Rattle.vp_text.specs.Numbers.{number_of, number_within}
-use Rattle.vp_text.specs.Pieces.{◌>>=◌}
 use Rattle.vp_text.proofs.Numbers.{number_exact, number_within_exact}
-use Rattle.vp_text.proofs.Pieces.{both_true, bound, chosen, no_value, same_value, same_bytes, so}
+use Rattle.vp_text.proofs.Pieces.{both_true, bound, chosen, no_value, same_value, so}
 use Rattle.vp_text.proofs.Spelled.{tail_is}
 use Rattle.vp_loggram.specs.Logs.{IsEvent, is_of_deck}
-use Rattle.vp_loggram.specs.Reading.{of_deck}
 use Rattle.vp_loggram.specs.declared.event.Event.{Event}
 use Rattle.vp_csv.specs.Fields.{Row, row_of, cards_of, five_of}
 use Rattle.vp_csv.specs.Records.{Field, Record}
@@ -85,12 +83,12 @@ pub start_taken : (w : Row) (start : ℕ) → start_in w ≡ Some start → Open
 unfolding start_in
 start_taken w start e = chosen (λ start. OpensRow w start) (tells_no_game w) (number_within 0 1000000000000 w.credits) None start e
     (λ none read.
-      let p4 = both_true _ (is_empty w.pay) none in
-      let p3 = both_true _ (is_empty w.draw) p4.0 in
-      let p2 = both_true _ (is_empty w.hold) p3.0 in
-      let p1 = both_true (is_empty w.bet) (is_empty w.deal) p2.0 in
-      let n = (number_within_exact 0 1000000000000 (omega arith)).takes w.credits start read in
-      record { most = n.0.1; bet = empty_is w.bet p1.0; deal = empty_is w.deal p1.1; hold = empty_is w.hold p2.1; draw = empty_is w.draw p3.1; pay = empty_is w.pay p4.1; credits = sym n.1 })
+    let p4 = both_true _ (is_empty w.pay) none in
+    let p3 = both_true _ (is_empty w.draw) p4.0 in
+    let p2 = both_true _ (is_empty w.hold) p3.0 in
+    let p1 = both_true (is_empty w.bet) (is_empty w.deal) p2.0 in
+    let n = (number_within_exact 0 1000000000000 (omega arith)).takes w.credits start read in
+    record { most = n.0.1; bet = empty_is w.bet p1.0; deal = empty_is w.deal p1.1; hold = empty_is w.hold p2.1; draw = empty_is w.draw p3.1; pay = empty_is w.pay p4.1; credits = sym n.1 })
     (λ none. absurd (no_value start none))
 
 pub start_most : (r : Record) (start : ℕ) → start_of r ≡ Some start → start ≤ 1000000000000
@@ -147,10 +145,11 @@ game_taken n w e read =
     let t6 = number_exact.takes w.credits credits.value credits.first in
     let made : Event = record { bet = bet.value; deal = deal.value; hold = record { items = hold.value }; draw = record { items = draw.value }; pay = pay.value; credits = credits.value } in
     chosen (λ e. IsEvent n e × TellsRow w e) (is_of_deck n made) (Some made) None e credits.then
-      (λ is s. so (λ e. IsEvent n e × TellsRow w e) made e s
-        (record { bet = t1.0; deal = five.0; hold = field_few w.hold hold.value hold.first; draw = field_few w.draw draw.value draw.first; cards = is; pay = t5.0; credits = t6.0 },
-         record { bet = sym t1.1; deal = sym t2.1 ∙ ap cards_field five.1; hold = sym t3.1; draw = sym t4.1; pay = sym t5.1; credits = sym t6.1 }))
-      (λ s. absurd (no_value e s))
+    (λ is s. so (λ e. IsEvent n e × TellsRow w e) made e s (
+      record { bet = t1.0; deal = five.0; hold = field_few w.hold hold.value hold.first; draw = field_few w.draw draw.value draw.first; cards = is; pay = t5.0; credits = t6.0 },
+      record { bet = sym t1.1; deal = sym t2.1 ∙ ap cards_field five.1; hold = sym t3.1; draw = sym t4.1; pay = sym t5.1; credits = sym t6.1 },
+    ))
+    (λ s. absurd (no_value e s))
 
 pub game_valid : (n : ℕ) (r : Record) (e : Event) → game_of n r ≡ Some e → IsEvent n e
 unfolding game_of

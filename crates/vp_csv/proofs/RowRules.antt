@@ -1,14 +1,12 @@
 -- The rule of a record by its fields.
-use Rattle.std.proofs.Common.{◌≡◌, ◌<◌, ℕ, Bool, true, false, cond, ◌&&◌, ◌||◌, List, [], ◌∷◌, ◌++◌, map, length, refl, sym, ap, ◌∙◌, arith, Some, None, nat_lt}
+use Rattle.std.proofs.Common.{◌≡◌, ◌<◌, ℕ, Bool, true, false, cond, ◌&&◌, ◌||◌, List, [], ◌∷◌, ◌++◌, length, refl, sym, ap, ◌∙◌, arith, Some, None, nat_lt}
 use Rattle.std.specs.Prelude.{Option, is_some, bytes_eq, if◌then◌else◌}
-use Rattle.std.specs.List.{list_any}
-use Rattle.std.proofs.lemmas.Bool.{cases_Bool, lt-ltb}
+use Rattle.std.proofs.lemmas.Bool.{lt-ltb}
 use Rattle.vp_text.specs.Lines.{Word}
-use Rattle.vp_text.specs.Pieces.{◌>>=◌}
 use Rattle.vp_text.proofs.Pieces.{no_value, same_value}
 use Rattle.vp_pay.specs.Names.{is_name}
 use Rattle.vp_csv.specs.Fields.{Row, row_of}
-use Rattle.vp_csv.specs.Kept.{Kept, game_line, is_kept, names_kept, opened, updated, with_text}
+use Rattle.vp_csv.specs.Kept.{Kept, game_line, is_kept, names_kept, opened, updated, with_text_for}
 use Rattle.vp_csv.specs.Records.{Record}
 use Rattle.vp_csv.specs.Rules.{game_in, game_of, keeps_rule, knows, name_of, start_in, start_of}
 
@@ -79,7 +77,7 @@ rule_new n count ks r row name is same few named new =
     rw (name_is r row is, start_is r row is, lt-ltb count 400000 few, ← same, named, unknown, many_kept ks) refl
 
 pub game_kept : (n : ℕ) (ks : List Kept) (r : Record) (row : Row) (name : Word) → row_of r ≡ Some row → name ≡ row.session → is_kept name ks ≡ true
-    → updated n r ks ≡ map (with_text name (game_line (game_in n row))) ks
+    → updated n r ks ≡ with_text_for name (game_line (game_in n row)) ks
 unfolding updated
 game_kept n ks r row name is same old = rw (name_is r row is, game_is n r row is, ← same, old) refl
 

@@ -1,7 +1,7 @@
 -- The fields of a record of seven.
-use Rattle.std.proofs.Common.{◌≡◌, ◌≢◌, ℕ, List, [], ◌∷◌, length, Option, Some, None, refl, arith}
+use Rattle.std.proofs.Common.{◌≡◌, ◌≢◌, ℕ, List, [], ◌∷◌, length, Some, None, refl, arith}
 use Rattle.csv.specs.Records.{field_at}
-use Rattle.vp_csv.specs.Fields.{Row, row_of}
+use Rattle.vp_csv.specs.Fields.{row_of}
 use Rattle.vp_csv.specs.Left.{given}
 use Rattle.vp_csv.specs.Records.{Record}
 

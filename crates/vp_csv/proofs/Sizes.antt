@@ -1,6 +1,6 @@
 -- How long the texts of logs are.
-use Rattle.std.proofs.Common.{◌≡◌, ◌<◌, ◌≤◌, ◌+◌, ◌*◌, ◌^◌, ℕ, Bool, true, false, cond, List, [], ◌∷◌, ◌++◌, map, length, refl, sym, ap, ◌∙◌, arith, Some, None, length-append}
-use Rattle.std.specs.Prelude.{Option, codes, option_to_list}
+use Rattle.std.proofs.Common.{◌≡◌, ◌<◌, ◌≤◌, ◌+◌, ◌*◌, ℕ, List, [], ◌∷◌, ◌++◌, map, length, refl, arith, length-append}
+use Rattle.std.specs.Prelude.{codes}
 use Rattle.std.specs.Fmt.{decimal}
 use Rattle.std.specs.List.{AllByRecursion}
 use Rattle.vp_card.specs.Texts.{card_text}
@@ -9,7 +9,7 @@ use Rattle.vp_text.specs.Lines.{Word}
 use Rattle.vp_text.specs.Written.{line_of, spaced, written}
 use Rattle.vp_text.proofs.Room.{digits_of_64}
 use Rattle.vp_loggram.specs.Logs.{IsEvent, IsLog, LogValue}
-use Rattle.vp_loggram.specs.Spelling.{event_words, key_number, log_text}
+use Rattle.vp_loggram.specs.Spelling.{event_words, key_number}
 use Rattle.vp_loggram.specs.declared.event.Event.{Event}
 
 -- ---- words of a line

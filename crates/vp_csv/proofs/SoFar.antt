@@ -1,10 +1,9 @@
 -- The records that were read so far, and those that are left.
 use Rattle.std.proofs.Common.{◌≡◌, ℕ, ◌+◌, List, [], ◌∷◌, ◌++◌, length, Some, None, refl, sym, ap, ◌∙◌, arith, true, false, Bool, append_assoc, length-append}
-use Rattle.std.specs.Prelude.{Option}
 use Rattle.std.proofs.lemmas.List.{append-nil}
 use Rattle.vp_csv.specs.Records.{Record}
 use Rattle.vp_csv.specs.Left.{Steps}
-use Rattle.vp_csv.specs.Rules.{break_behind, keeps_rule, may_follow, names_behind, names_of}
+use Rattle.vp_csv.specs.Rules.{break_behind, keeps_rule, may_follow, names_behind}
 use Rattle.vp_csv.specs.Kept.{Kept, kept_in, names_kept, updated}
 use Rattle.vp_csv.proofs.OneMore.{names_are, updates}
 

@@ -1,14 +1,12 @@
 -- what one read does to the records that are left
-use Rattle.std.proofs.Common.{Bor, ◌≡◌, ◌<◌, ◌≤◌, ◌⊎◌, ℕ, zero, suc, ◌+◌, List, [], ◌∷◌, length, Option, Some, None, refl, sym, ap, subst, arith, ◌∙◌, true, false, inl, inr, Bool}
-use Rattle.std.specs.Prelude.{Result, Ok, Err, IfOk, IfErr, OnOk, not, ◌&&◌, ◌==◌, ◌++◌, drop, take, if◌then◌else◌}
+use Rattle.std.proofs.Common.{Bor, ◌≡◌, ℕ, suc, ◌+◌, List, [], ◌∷◌, length, Option, Some, None, refl, sym, ap, arith, ◌∙◌, true, false, inl, inr, Bool}
+use Rattle.std.specs.Prelude.{not, ◌&&◌, ◌==◌, ◌++◌, drop, take, if◌then◌else◌}
 use Rattle.std.proofs.lemmas.Bool.{cases_Bool}
 use Rattle.csv.specs.Machine.{Read, next_record}
-use Rattle.csv.specs.Reading.{records_from, records_next, source_of, pending_of, unread_of, default_config, ReadRecord, ReadsNext, NextIs, ReadsOn, Ready, Reached, strip_bom, has_failed, stops_reader, error_kind, reader_trim, took_first}
+use Rattle.csv.specs.Reading.{records_from, source_of, unread_of, default_config, ReadRecord, ReadsOn, Ready, Reached, strip_bom, has_failed, reader_trim, took_first}
 use Rattle.csv.specs.declared.reader.Reader.{Reader}
 use Rattle.csv.specs.declared.parser.State.{State}
-use Rattle.csv.specs.declared.parser.State.TheVariants as st
 use Rattle.csv.specs.declared.reader.Trim.TheVariants as trim
-use Rattle.csv.specs.declared.error.Error.{Error}
 use Rattle.csv.proofs.ReadFacts.{rows-end, rows-more}
 use Rattle.vp_csv.specs.Left.{left_from, left_of, Steps, IsSet, Keeps}
 use Rattle.vp_csv.specs.Records.{Record}
@@ -38,20 +36,20 @@ one_more xs = omega arith
 pub found_left : (s t : State) (xs ys : List ℕ) (f : Record) → Reached default_config s xs (f ∷ []) t ys → left_from s (Some xs) ≡ f ∷ left_from t (Some ys)
 unfolding Reached
 found_left s t xs ys f r =
-  let (q, is, row, ends) = r in
-  rw (one_more xs, row, ← ends.0, ← ends.1) (found_first s xs q is)
+    let (q, is, row, ends) = r in
+    rw (one_more xs, row, ← ends.0, ← ends.1) (found_first s xs q is)
 
 pub step_true : (a b : Reader (Bor (List ℕ))) (f : Record) (xs : List ℕ) → IsSet a → source_of rem a ≡ Some xs → ReadRecord rem a b true f → left_of a ≡ f ∷ left_of b
 unfolding left_of Reached
 step_true a b f xs set from r =
-  let (ys, at, reached) = rows-more rem a b f default_config a.state xs xs [] set.config from (refl, refl) r in
-  rw (from, at) (found_left a.state b.state xs ys f reached)
+    let (ys, at, reached) = rows-more rem a b f default_config a.state xs xs [] set.config from (refl, refl) r in
+    rw (from, at) (found_left a.state b.state xs ys f reached)
 
 pub step_false : (a b : Reader (Bor (List ℕ))) (f : Record) (xs : List ℕ) → IsSet a → source_of rem a ≡ Some xs → ReadRecord rem a b false f → left_of a ≡ []
 unfolding left_of
 step_false a b f xs set from r =
-  let none = rows-end rem a b f default_config xs set.config from r in
-  rw (from, one_more xs) (none_left a.state xs none)
+    let none = rows-end rem a b f default_config xs set.config from r in
+    rw (from, one_more xs) (none_left a.state xs none)
 
 unread_some : (a : Reader (Bor (List ℕ))) → (xs : List ℕ) × (unread_of rem a ≡ Some xs)
 unread_some a = elim (cases_Bool (not a.bom_checked && (a.at == 0) && (a.filled == 0))) [
@@ -71,7 +69,7 @@ unfolding left_of
 failed_left a bad = rw bad refl
 
 pub steps : (a b : Reader (Bor (List ℕ))) (found : Bool) (f : Record) → Keeps a → (has_failed a ≡ true → found ≡ false)
-  → (reader_trim a ≡ trim.None → Ready a → ReadRecord rem a b found f) → Steps (left_of a) found f (left_of b)
+    → (reader_trim a ≡ trim.None → Ready a → ReadRecord rem a b found f) → Steps (left_of a) found f (left_of b)
 unfolding Keeps
 steps a b true f keeps bad reads = elim (cases_Bool (has_failed a)) [
   | inl failed ↦ absurd (let e = bad failed in cc)
@@ -83,12 +81,12 @@ steps a b false f keeps bad reads = elim (cases_Bool (has_failed a)) [
 ]
 
 pub keeps_ok : (a b : Reader (Bor (List ℕ))) (found : Bool) (f : Record) → Keeps a → has_failed b ≡ has_failed a
-  → (reader_trim a ≡ trim.None → took_first b ≡ true) → (reader_trim a ≡ trim.None → Ready a → ReadRecord rem a b found f) → Keeps b
+    → (reader_trim a ≡ trim.None → took_first b ≡ true) → (reader_trim a ≡ trim.None → Ready a → ReadRecord rem a b found f) → Keeps b
 unfolding Keeps
 keeps_ok a b found f keeps same first reads good =
-  let set = keeps (sym same ∙ good) in
-  let r = reads set.plain set.ready in
-  record { plain = r.3 ∙ set.plain; ready = inl (first set.plain); config = r.2 ∙ set.config }
+    let set = keeps (sym same ∙ good) in
+    let r = reads set.plain set.ready in
+    record { plain = r.3 ∙ set.plain; ready = inl (first set.plain); config = r.2 ∙ set.config }
 
 pub keeps_err : (a b : Reader (Bor (List ℕ))) (stops : Bool) → Keeps a → (has_failed a ≡ true → ⊥) → has_failed b ≡ stops → (stops ≡ false → ReadsOn a b) → Keeps b
 unfolding Keeps

@@ -1,5 +1,5 @@
 -- The seven fields of a record, and how cards stand in a field: their texts, with one space between.
-use Rattle.std.specs.Prelude.{ℕ, ◌==◌, ◌&&◌, Bool, false, nat_lt, length, List, [], ◌∷◌, ◌++◌, Option, Some, None, bytes_eq, codes, if◌then◌else◌}
+use Rattle.std.specs.Prelude.{ℕ, ◌==◌, ◌&&◌, nat_lt, length, List, [], ◌∷◌, ◌++◌, Option, Some, None, if◌then◌else◌}
 use Rattle.vp_card.specs.Reading.{card_of}
 use Rattle.vp_text.specs.Pieces.{◌>>=◌}
 use Rattle.vp_csv.specs.Records.{Field, Record}
@@ -24,8 +24,8 @@ more_cards cards [] = Some cards
 more_cards cards (a ∷ []) = None
 more_cards cards (a ∷ b ∷ []) = None
 more_cards cards (s ∷ a ∷ b ∷ rest) = if s == 32 && nat_lt (length cards) 5 then (do
-    card ← card_of (a ∷ b ∷ [])
-    more_cards (cards ++ card ∷ []) rest) else None
+  card ← card_of (a ∷ b ∷ [])
+  more_cards (cards ++ card ∷ []) rest) else None
 
 -- the cards of a field, none where it is empty
 unfoldable pub cards_of : Field → Option (List ℕ)

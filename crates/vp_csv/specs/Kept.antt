@@ -1,5 +1,5 @@
 -- How sessions are kept while their records are read: each by its name, and by the text of its log so far.
-use Rattle.std.specs.Prelude.{◌≡◌, ℕ, ◌<◌, ◌≤◌, Bool, true, false, List, [], ◌∷◌, ◌++◌, length, map, Option, Some, None, Result, Ok, Err, bytes_eq, codes, if◌then◌else◌}
+use Rattle.std.specs.Prelude.{◌≡◌, ℕ, ◌<◌, ◌≤◌, Bool, true, List, [], ◌∷◌, ◌++◌, length, map, get_or, slice_set, Option, Some, None, Result, Ok, Err, bytes_eq, codes, if◌then◌else◌}
 use Rattle.std.specs.List.{list_any, AllByRecursion}
 use Rattle.vp_card.specs.Cards.{IsDeck}
 use Rattle.vp_text.specs.Lines.{Word, Feed, feed_of}
@@ -9,7 +9,7 @@ use Rattle.vp_loggram.specs.Sections.{log_at}
 use Rattle.vp_loggram.specs.Spelling.{event_words, key_number, log_text}
 use Rattle.vp_loggram.specs.declared.event.Event.{Event}
 use Rattle.vp_csv.specs.Records.{Record}
-use Rattle.vp_csv.specs.Rules.{name_of, names_of, start_of, game_of, is_header}
+use Rattle.vp_csv.specs.Rules.{name_of, names_of, start_of, game_of, is_header, IsHeadless}
 use Rattle.vp_csv.specs.declared.stop.CsvStop.{CsvStop}
 use Rattle.vp_csv.specs.declared.stop.CsvStop.TheVariants as stop
 use Rattle.vp_csv.specs.Sessions.{Session, Sorted, log_of, own, or_zero}
@@ -38,15 +38,28 @@ is_kept name ks = list_any (has_name name) ks
 abbrev pub names_kept : List Kept → List Word
 names_kept ks = map (λ k. k.name) ks
 
-abbrev pub with_text : Word → List ℕ → Kept → Kept
-with_text name text k = if bytes_eq k.name name then record { name = k.name; text = k.text ++ text } else k
+-- a session with more text
+abbrev pub with_text : List ℕ → Kept → Kept
+with_text text k = record { name = k.name; text = k.text ++ text }
+
+-- more text for the first session with this name
+unfoldable pub with_text_for : Word → List ℕ → List Kept → List Kept
+with_text_for name text [] = []
+with_text_for name text (k ∷ ks) = if bytes_eq k.name name then with_text text k ∷ ks else k ∷ with_text_for name text ks
+
+abbrev pub kept_at : List Kept → ℕ → Kept
+kept_at ks place = get_or ks place (record { name = []; text = [] })
+
+-- more text for the session at a place
+abbrev pub with_text_at : ℕ → List ℕ → List Kept → List Kept
+with_text_at place text ks = slice_set ks place (with_text text (kept_at ks place))
 
 abbrev pub opened : Word → Option ℕ → Kept
 opened name start = record { name = name; text = start_line (or_zero start) }
 
 -- the sessions with one more record, with cards of a deck of n
 unfoldable pub updated : ℕ → Record → List Kept → List Kept
-updated n r ks = if is_kept (name_of r) ks then map (with_text (name_of r) (game_line (game_of n r))) ks else ks ++ opened (name_of r) (start_of r) ∷ []
+updated n r ks = if is_kept (name_of r) ks then with_text_for (name_of r) (game_line (game_of n r)) ks else ks ++ opened (name_of r) (start_of r) ∷ []
 
 -- the text of a log without its last line
 abbrev pub open_text : LogValue → List ℕ
@@ -91,11 +104,6 @@ pub record AreKept (n : ℕ) (ks : List Kept) : Type 0 where
   pub all : AllByRecursion (IsKept n) ks
 
 -- ---- the header
-
--- no header is the first record
-abbrev pub IsHeadless : List Record → Type 0
-IsHeadless [] = Unit {0}
-IsHeadless (r ∷ rs) = is_header r ≡ false
 
 -- the first record is a header, and these are behind it
 abbrev pub IsBehindHeader : List Record → List Record → Type 0

@@ -1,13 +1,14 @@
 -- Which records may stand in a log of many sessions, and which record breaks its rule first.
-use Rattle.std.specs.Prelude.{◌≡◌, ℕ, ◌+◌, ◌==◌, ◌&&◌, nat_lt, Bool, true, false, List, [], ◌∷◌, ◌++◌, length, Option, Some, None, is_some, bytes_eq, codes, if◌then◌else◌}
+use Rattle.std.specs.Prelude.{◌≡◌, ℕ, ◌+◌, ◌&&◌, nat_lt, Bool, true, false, List, [], ◌∷◌, ◌++◌, length, Option, Some, None, is_some, ◌⊎◌, bytes_eq, codes, if◌then◌else◌}
 use Rattle.std.specs.List.{list_any}
+use Rattle.vp_text.specs.ExactReaders.{Keeps}
 use Rattle.vp_text.specs.Lines.{Word, is_empty}
 use Rattle.vp_text.specs.Numbers.{number_of, number_within}
 use Rattle.vp_text.specs.Pieces.{◌>>=◌}
 use Rattle.vp_pay.specs.Names.{is_name}
 use Rattle.vp_loggram.specs.Reading.{of_deck}
 use Rattle.vp_loggram.specs.declared.event.Event.{Event}
-use Rattle.vp_csv.specs.Records.{Field, Record, records_in}
+use Rattle.vp_csv.specs.Records.{Record, records_in}
 use Rattle.vp_csv.specs.Fields.{Row, row_of, cards_of, five_of}
 use Rattle.vp_csv.specs.declared.stop.CsvStop.{CsvStop}
 use Rattle.vp_csv.specs.declared.stop.CsvStop.TheVariants as stop
@@ -108,3 +109,34 @@ refused_record n bytes = first_break n (records_in bytes)
 abbrev pub IsStop : CsvStop → Option ℕ → Type 0
 IsStop (stop.Record place) o = o ≡ Some place
 IsStop stop.NoMemory o = Unit {0}
+
+-- ---- the same, without an order of reading
+
+-- the first record is the header, and each later one keeps its rule behind those before it
+pub record KeepRules (n : ℕ) (all : List Record) : Type 0 where
+  pub header : Record
+  pub records : List Record
+  pub split : all ≡ header ∷ records
+  pub named : is_header header ≡ true
+  pub each : Keeps (λ front r. may_follow n front r ≡ true) [] records
+
+-- no record is the first, or one that is no header
+abbrev pub IsHeadless : List Record → Type 0
+IsHeadless [] = Unit {0}
+IsHeadless (r ∷ rs) = is_header r ≡ false
+
+-- the header and the records in front keep their rules, and the next, which has this number, breaks its rule
+pub record BreaksAt (n : ℕ) (all : List Record) (place : ℕ) : Type 0 where
+  pub header : Record
+  pub front : List Record
+  pub broken : Record
+  pub back : List Record
+  pub split : all ≡ header ∷ front ++ broken ∷ back
+  pub named : is_header header ≡ true
+  pub each : Keeps (λ front r. may_follow n front r ≡ true) [] front
+  pub breaks : may_follow n front broken ≡ false
+  pub number : place ≡ length front + 2
+
+-- the first record that breaks its rule: the header, or a later one
+abbrev pub BreaksFirst : ℕ → List Record → ℕ → Type 0
+BreaksFirst n all place = ((place ≡ 1) × IsHeadless all) ⊎ BreaksAt n all place

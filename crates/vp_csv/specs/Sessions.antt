@@ -1,5 +1,5 @@
 -- What the sessions of a text are: the log of each has its opening number as start, and its game records, in their order, as games.
-use Rattle.std.specs.Prelude.{◌≡◌, ℕ, List, [], ◌∷◌, ◌++◌, filter, map, flat_map, get_or, Option, Some, None, option_to_list, bytes_eq}
+use Rattle.std.specs.Prelude.{◌≡◌, ℕ, ◌<◌, List, [], ◌∷◌, length, filter, map, flat_map, get_or, Option, Some, None, option_to_list, bytes_eq}
 use Rattle.vp_text.specs.Lines.{Word}
 use Rattle.vp_loggram.specs.Logs.{LogValue}
 use Rattle.vp_loggram.specs.declared.event.Event.{Event}
@@ -52,3 +52,17 @@ pub record Sorted : Type 0 where
 -- the session at a place
 abbrev pub session_at : Sorted → ℕ → Session
 session_at s i = get_or s.sessions i (record { name = []; log = record { start = 0; events = [] } })
+
+abbrev pub sorted : ℕ → List ℕ → Sorted
+sorted n bytes = record { deck = n; sessions = sessions_of n bytes }
+
+-- the records of a session of a text
+abbrev pub own_in : Word → List ℕ → List Record
+own_in name bytes = own name (behind_first (records_in bytes))
+
+-- Two texts have, at these places, sessions of one name, whose records are the same, in the same order.
+pub record AreAlike (n : ℕ) (a b : List ℕ) (i j : ℕ) : Type 0 where
+  pub first : i < length (sessions_of n a)
+  pub second : j < length (sessions_of n b)
+  pub name : (session_at (sorted n a) i).name ≡ (session_at (sorted n b) j).name
+  pub records : own_in (session_at (sorted n a) i).name a ≡ own_in (session_at (sorted n b) j).name b

@@ -1,9 +1,10 @@
 //! Sessions, while their records are read.
 
-ghost use Rattle.std.specs.Prelude.{◌≡◌, ◌++◌, ◌∷◌, [], length, map, bytes_eq, codes, OnOk, IfOk};
+ghost use Rattle.std.specs.Prelude.{◌≡◌, ◌<◌, ◌++◌, ◌∷◌, [], length, map, bytes_eq, codes, OnOk, IfOk};
+ghost use Rattle.std.specs.List.{position};
 ghost use Rattle.vp_text.specs.Written.{line_of};
 ghost use Rattle.vp_loggram.specs.Spelling.{event_words};
-ghost use Rattle.vp_csv.specs.Kept.{closed, is_kept, start_line, with_text};
+ghost use Rattle.vp_csv.specs.Kept.{closed, has_name, start_line, with_text, with_text_at};
 
 use std::alloc::{AllocError, Global};
 use std::marker::Model;
@@ -57,14 +58,11 @@ impl Kept {
         self.name.text() == name
     }
 
-    /// Appends a game, where the session has this name.
-    fn append(&mut self, name: &[u8], event: &Event) -> Result<(), AllocError>
-        ensures { OnOk result (self.new ≡ with_text name.now (line_of (event_words event.now)) self.old) }
+    /// Appends a game.
+    fn append(&mut self, event: &Event) -> Result<(), AllocError>
+        ensures { OnOk result (self.new ≡ with_text (line_of (event_words event.now)) self.old) }
     {
-        if self.has_name(name) {
-            event.append(&mut self.text)?;
-        }
-        Ok(())
+        event.append(&mut self.text)
     }
 
     /// Ends the log.
@@ -75,21 +73,20 @@ impl Kept {
     }
 }
 
-/// One of the sessions has this name.
-pub(crate) fn is_kept(sessions: &[Kept], name: &[u8]) -> bool
-    ensures { result ≡ is_kept name.now sessions.now }
+/// The place of the session with this name.
+pub(crate) fn place_of(sessions: &[Kept], name: &[u8]) -> Option<usize>
+    ensures { result ≡ position (has_name name.now) sessions.now }
 {
-    sessions.iter().any(|session| session.has_name(name))
+    sessions.iter().position(|session| session.has_name(name))
 }
 
-/// Appends a game to the session with this name.
-pub(crate) fn append(sessions: &mut [Kept], name: &[u8], event: &Event) -> Result<(), AllocError>
-    ensures { OnOk result (sessions.new ≡ map (with_text name.now (line_of (event_words event.now))) sessions.old) }
+/// Appends a game to the session at a place.
+pub(crate) fn append(sessions: &mut [Kept], place: usize, event: &Event) -> Result<(), AllocError>
+    requires { place < length sessions.old }
+    ensures { OnOk result
+        (sessions.new ≡ with_text_at place (line_of (event_words event.now)) sessions.old) }
 {
-    for session in sessions.iter_mut() {
-        session.append(name, event)?;
-    }
-    Ok(())
+    sessions[place].append(event)
 }
 
 /// Ends the logs.

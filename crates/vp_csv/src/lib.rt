@@ -10,7 +10,7 @@ mod row;
 mod sessions;
 mod stop;
 
-pub use laws::{records_are_spelled, sessions_are_apart};
+pub use laws::{first_breaks_are_refused, records_are_spelled, sessions_are_apart};
 pub use sessions::Sessions;
 pub use stop::CsvStop;
 

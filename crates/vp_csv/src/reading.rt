@@ -2,34 +2,36 @@
 
 ghost use Rattle.std.specs.Prelude.{◌≡◌, ◌<◌, ◌++◌, ◌∷◌, ◌&&◌, [], true, None, Some, IfOk, IfErr, OnOk, is_some, length, map, nat_lt};
 ghost use Rattle.csv.specs.Records.{fields_of};
-ghost use Rattle.vp_csv.specs.Kept.{closed, game_line, kept_in, names_kept, opened, updated, with_text};
+ghost use Rattle.vp_csv.specs.Kept.{closed, game_line, kept_in, names_kept, opened, updated, with_text_at};
 ghost use Rattle.vp_csv.specs.Kept.{IsBehindHeader, IsRefusedHeader};
 ghost use Rattle.vp_csv.specs.Records.{records_in};
 ghost use Rattle.vp_csv.specs.Rules.{IsStop, break_behind, first_break, game_in, is_header, keeps_rule, start_in};
 ghost use Rattle.vp_csv.specs.Sessions.{behind_first};
 
 use crate::CsvStop;
-use crate::kept::{Kept, append, close_all, is_kept};
+use crate::kept::{Kept, append, close_all, place_of};
 use crate::records::Records;
 use crate::row::{Row, is_header, row_of};
 use csv::ByteRecord;
 use std::alloc::{AllocError, Global};
 use vp_pay::Name;
 
-/// Keeps a record of a session that is known, and tells whether it is a game.
+/// Keeps a record of the session at a place, and tells whether it is a game.
 fn take_game(
     sessions: &mut Vec<Kept>,
-    name: &Name,
+    place: usize,
     row: &Row,
     deck: u8,
 ) -> Result<bool, AllocError>
+    requires { place < length sessions.old.items }
     ensures game { IfOk result (λ kept. kept ≡ is_some (game_in deck row.now)) }
-    ensures keeps { IfOk result (λ kept. kept ≡ true → sessions.new.items ≡ map (with_text name.now (game_line (game_in deck row.now))) sessions.old.items) }
+    ensures keeps { IfOk result (λ kept. kept ≡ true → sessions.new.items
+        ≡ with_text_at place (game_line (game_in deck row.now)) sessions.old.items) }
 {
     let Some(event) = row.game(deck) else {
         return Ok(false);
     };
-    append(sessions, name.text(), &event)?;
+    append(sessions, place, &event)?;
     Ok(true)
 }
 
@@ -40,8 +42,10 @@ fn take_opening(
     name: Name,
     row: &Row,
 ) -> Result<bool, AllocError>
-    ensures opens { IfOk result (λ kept. kept ≡ (nat_lt (length sessions.old.items) 1000 && is_some (start_in row.now))) }
-    ensures keeps { IfOk result (λ kept. kept ≡ true → sessions.new.items ≡ sessions.old.items ++ opened name (start_in row.now) ∷ []) }
+    ensures opens { IfOk result
+        (λ kept. kept ≡ (nat_lt (length sessions.old.items) 1000 && is_some (start_in row.now))) }
+    ensures keeps { IfOk result (λ kept. kept ≡ true → sessions.new.items
+        ≡ sessions.old.items ++ opened name (start_in row.now) ∷ []) }
 {
     if sessions.len() >= 1000 {
         return Ok(false);
@@ -61,9 +65,11 @@ fn take(
     fields: &ByteRecord,
     deck: u8,
 ) -> Result<bool, AllocError>
-    ensures may { IfOk result (λ kept. kept ≡ keeps_rule deck count (names_kept sessions.old.items) (fields_of fields.now)) }
+    ensures may { IfOk result (λ kept. kept
+        ≡ keeps_rule deck count (names_kept sessions.old.items) (fields_of fields.now)) }
     ensures room { IfOk result (λ kept. kept ≡ true → count < 400000) }
-    ensures keeps { IfOk result (λ kept. kept ≡ true → sessions.new.items ≡ updated deck (fields_of fields.now) sessions.old.items) }
+    ensures keeps { IfOk result (λ kept. kept ≡ true → sessions.new.items
+        ≡ updated deck (fields_of fields.now) sessions.old.items) }
 {
     if count >= 400000 {
         return Ok(false);
@@ -74,10 +80,9 @@ fn take(
     let Some(name) = Name::read(row.session()) else {
         return Ok(false);
     };
-    if is_kept(sessions, name.text()) {
-        take_game(sessions, &name, &row, deck)
-    } else {
-        take_opening(alloc, sessions, name, &row)
+    match place_of(sessions, name.text()) {
+        Some(place) => take_game(sessions, place, &row, deck),
+        None => take_opening(alloc, sessions, name, &row),
     }
 }
 
@@ -102,7 +107,8 @@ fn read_behind(
     fields: &mut ByteRecord,
     deck: u8,
 ) -> Result<Vec<Kept>, CsvStop>
-    ensures read { IfOk result (λ v. (break_behind deck [] records.old ≡ None) × (v.items ≡ kept_in deck records.old)) }
+    ensures read { IfOk result (λ v. (break_behind deck [] records.old ≡ None)
+        × (v.items ≡ kept_in deck records.old)) }
     ensures refused { IfErr result (λ e. IsStop e (break_behind deck [] records.old)) }
 {
     let mut sessions = Vec::new(alloc);
@@ -127,7 +133,8 @@ fn read_behind(
 /// The sessions of a text, their logs not being ended.
 #[tactic(auto, unfolding(crate::specs::Rules::first_break))]
 pub(crate) fn read_kept(alloc: Global, bytes: &[u8], deck: u8) -> Result<Vec<Kept>, CsvStop>
-    ensures read { IfOk result (λ v. (first_break deck (records_in bytes.now) ≡ None) × (v.items ≡ kept_in deck (behind_first (records_in bytes.now)))) }
+    ensures read { IfOk result (λ v. (first_break deck (records_in bytes.now) ≡ None)
+        × (v.items ≡ kept_in deck (behind_first (records_in bytes.now)))) }
     ensures refused { IfErr result (λ e. IsStop e (first_break deck (records_in bytes.now))) }
 {
     let mut records = Records::new(alloc, bytes);

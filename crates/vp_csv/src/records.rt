@@ -52,7 +52,8 @@ impl<'a> Records<'a> {
 fn read_row(reader: &mut Reader<&[u8]>, row: &mut ByteRecord) -> Result<bool, AllocError>
     requires { Keeps reader.old }
     ensures keeps { Keeps reader.new }
-    ensures steps { IfOk result (λ found. Steps (left_of reader.old) found (fields_of row.new) (left_of reader.new)) }
+    ensures steps { IfOk result
+        (λ found. Steps (left_of reader.old) found (fields_of row.new) (left_of reader.new)) }
 {
     let Ok(found) = reader.read_byte_record(row) else {
         return Err(AllocError);

@@ -46,7 +46,8 @@ impl Sessions {
         requires { IsDeck deck }
         // Where sessions are read, each record keeps its rule, and they are the sessions of the records.
         ensures kept { OnOk result (refused_record deck bytes.now ≡ None) }
-        ensures read { IfOk result (λ s. s ≡ record { deck = deck; sessions = sessions_of deck bytes.now }) }
+        ensures read { IfOk result
+            (λ s. s ≡ record { deck = deck; sessions = sessions_of deck bytes.now }) }
         // The first record that breaks its rule is refused; want of memory is free.
         ensures refused { IfErr result (λ e. IsStop e (refused_record deck bytes.now)) }
     {

@@ -1,21 +1,28 @@
-//! CSV texts that are read and refused.
+//! CSV texts that are read, and CSV texts that are refused.
 
-use crate::{CsvStop, Sessions};
+ghost use Rattle.vp_card.specs.Cards.{IsDeck};
+
+mod many;
+mod refused;
+mod sessions;
+
+use crate::Sessions;
 use std::alloc::Global;
 use std::test::*;
 
-const TEXT: &[u8] = b"session,bet,deal,hold,draw,pay,credits
-a,,,,,,100
-b,,,,,,4
-a,5,As Ks Qs Js 4s,Js Qs Ks As,Ts,4000,4095
-b,5,As Ks Qs Js 4s,Js Qs Ks As,Ts,4000,3999
-";
-
-#[test]
-fn sessions_are_read(rt: HostRuntime) -> Result<(), Fail> {
-    let sessions = Sessions::read(rt.alloc(), TEXT, 52).ok().ok_or("sessions")?;
-    assert_eq!(rt; sessions.count(), 2);
-    assert_eq!(rt; sessions.name(0).text(), b"a".as_slice());
-    assert_eq!(rt; sessions.log(0), b"log 100\ngame 5 deal As Ks Qs Js 4s hold Js Qs Ks As draw Ts pay 4000 credits 4095\nend\n".as_slice());
-    Ok(())
+/// The names and logs of the sessions of a text, each name with a line feed, or `refused` and the record.
+pub(crate) fn told(alloc: Global, text: &[u8], deck: u8) -> Result<Vec<u8>, Fail>
+    requires { IsDeck deck }
+{
+    let sessions = Sessions::read(alloc, text, deck).ok().ok_or("sessions")?;
+    let mut told = Vec::new(alloc);
+    for place in 0..sessions.count() {
+        let name = sessions.name(place);
+        told.extend_from_slice(name.text()).ok().ok_or("memory")?;
+        told.push(b'\n').ok().ok_or("memory")?;
+        told.extend_from_slice(sessions.log(place))
+            .ok()
+            .ok_or("memory")?;
+    }
+    Ok(told)
 }

@@ -15,3 +15,4 @@ pub mod MeterGraphs
 pub mod MeterSoFar
 pub mod MeterText
 pub mod Exact
+pub mod DealSums

@@ -1,14 +1,16 @@
 -- What metered bets obey.
-use Rattle.std.specs.Prelude.{◌≡◌, ℕ, ◌+◌, ◌-◌, ◌*◌, ◌<◌, ◌≤◌, if◌then◌else◌, List, ◌∷◌, length}
+use Rattle.std.specs.Prelude.{◌≡◌, ℕ, ◌+◌, ◌-◌, ◌*◌, ◌<◌, ◌≤◌, if◌then◌else◌, List, ◌∷◌, length, sum_by}
 use Rattle.vp_draws.specs.Draws.{IsMean, best, sum_of_best, total, value}
 use Rattle.vp_pay.specs.Bets.{IsBet}
 use Rattle.vp_pay.specs.declared.table.PayTable.{PayTable}
 use Rattle.vp_suit.specs.Classes.{IsDeal, representative}
+use Rattle.vp_suit.specs.Laws.{deals}
 use Rattle.vp_suit.specs.Turns.{carried, turn}
 use Rattle.vp_wild.specs.Payment.{line, pay}
 use Rattle.vp_meter.specs.declared.piece.Piece.{Piece}
+use Rattle.vp_meter.specs.declared.segment.Segment.{Segment}
 use Rattle.vp_meter.specs.Metered.{IsMetering, Metering, at_payment, is_line, with_payment}
-use Rattle.vp_meter.specs.Pieces.{in_force, piece_in_force, pieces}
+use Rattle.vp_meter.specs.Pieces.{base_in, in_force, piece_in_force, pieces, slope_in}
 use Rattle.vp_meter.specs.Spelling.{graph_of, graphs_of}
 
 -- each hand has the same line, whatever the payment
@@ -63,3 +65,15 @@ pub record TellsMeter (m : Metering) (lo hi : ℕ) : Type 0 where
 
 abbrev pub MetersTellEveryDeal : Type 0
 MetersTellEveryDeal = (m : Metering) (lo hi : ℕ) → IsMetering m → TellsMeter m lo hi
+
+-- the segment in force at x of a deal: that of its class
+abbrev pub segment_in_force : Metering → ℕ → ℕ → ℕ → List ℕ → Segment
+segment_in_force m lo hi x cards = in_force x (graph_of m lo hi (representative cards)).first (graph_of m lo hi (representative cards)).later
+
+-- the two sums of a piece are sums over all deals, of the bases and of the slopes in force
+pub record SumsAllDeals (m : Metering) (lo hi x : ℕ) : Type 0 where
+  pub base : sum_by (base_in x) (graphs_of m lo hi) ≡ sum_by (λ cards. (segment_in_force m lo hi x cards).base) (deals m.table.deck)
+  pub slope : sum_by (slope_in x) (graphs_of m lo hi) ≡ sum_by (λ cards. (segment_in_force m lo hi x cards).slope) (deals m.table.deck)
+
+abbrev pub PiecesSumAllDeals : Type 0
+PiecesSumAllDeals = (m : Metering) (lo hi x : ℕ) → IsMetering m → SumsAllDeals m lo hi x

@@ -14,7 +14,7 @@ mod tallies;
 mod tests;
 mod writing;
 
-pub use laws::{meters_tell_every_deal, values_are_straight_lines};
+pub use laws::{meters_tell_every_deal, pieces_sum_all_deals, values_are_straight_lines};
 pub use metered_bet::Metered;
 pub use report::meter;
 pub use segment::{Segment, segments};

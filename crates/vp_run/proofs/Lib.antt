@@ -1,7 +1,11 @@
 pub mod AuditLines
+pub mod CrossInputs
+pub mod CrossLines
+pub mod PrintedCrosses
 pub mod NoCommand
 pub mod PrintedLosses
 pub mod PrintedMoments
+pub mod PrintedChances
 pub mod CommandWords
 pub mod CheckInputs
 pub mod FittingBets

@@ -18,6 +18,8 @@ use Rattle.vp_answer.specs.declared.stop.Stop.TheVariants.{Finding, Record, Refu
 use Rattle.vp_run.specs.Answer.{answer, answer_to, built_in_text, job_answer, job_of, job_text, tables_answer, usage}
 use Rattle.vp_run.specs.Check.{checked_lines}
 use Rattle.vp_run.specs.Commands.{command_of}
+use Rattle.vp_draws.specs.Draws.{return_denominator}
+use Rattle.vp_hits.specs.Hits.{often}
 use Rattle.vp_run.specs.Compile.{said_lines}
 use Rattle.vp_run.specs.Sessions.{Mixed, by_record, session_text, sessions_answer, sessions_text, unlawful}
 use Rattle.vp_csv.specs.Rules.{refused_record}
@@ -25,7 +27,8 @@ use Rattle.vp_csv.specs.Sessions.{sessions_of}
 use Rattle.vp_run.specs.declared.command.Command.{Command}
 use Rattle.vp_run.specs.declared.command.Command.TheVariants.{Over, Tables}
 use Rattle.vp_run.specs.declared.job.Job.{Job}
-use Rattle.vp_run.specs.declared.job.Job.TheVariants.{Certify, Checked, Deal, Replay, Sessions, Meter, Audit, Multi, Play, Compile}
+use Rattle.vp_run.specs.declared.job.Job.TheVariants.{Certify, Checked, Deal, Replay, Sessions, Meter, Audit, Multi, Play, Compile, Cross, Hits}
+use Rattle.vp_run.specs.Hits.{hit_lines}
 
 front_some : (front back : List ℕ) → 0 < length front → 0 < length (front ++ back)
 front_some front back some = omega (arith, length-append front back)
@@ -48,11 +51,13 @@ unfolding certificate_text table_text checked_lines meter_text head_words said_l
 job_some (Deal d) = front_some (line_of (codes "deal" ∷ map card_text d.hand)) _ (omega (arith, length-append (spaced (codes "deal" ∷ map card_text d.hand)) (10 ∷ [])))
 job_some (Certify s) = omega arith
 job_some (Audit l) = omega arith
+job_some (Cross c) = omega arith
 job_some (Checked c) = omega arith
 job_some (Replay l) = behind_some (cost_lines l.table true 1 l.log.events) (summary_lines l.table.deck (summary_of l.table l.log)) (omega arith)
 job_some (Sessions m) = record_some m (refused_record m.table.deck m.csv)
 job_some (Meter r) = omega arith
 job_some (Multi d) = omega arith
+job_some (Hits s) = behind_some (hit_lines (λ place. often s.table s.coin (Some place)) s.coin (return_denominator s.table.deck 1) 0 s.table.lines.items) _ (omega arith)
 job_some (Play p) = omega arith
 job_some (Compile p) = omega arith
 

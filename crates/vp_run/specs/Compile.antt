@@ -31,7 +31,7 @@ pub record Pooled : Type 0 where
   pub millionths : ℕ
   pub pool : RulePool
 
--- the table has the bet, no more than all may be lost, and the pool is one for the table
+-- the table has the bet, at most a million millionths of all that is bet may be lost, and the pool is one for the table
 pub record IsPooled (p : Pooled) : Type 0 where
   pub bet : IsBet p.table p.coin
   pub most : p.millionths ≤ 1000000

@@ -2,6 +2,7 @@ pub mod Commands
 pub mod Deal
 pub mod Certify
 pub mod Multi
+pub mod Hits
 pub mod Play
 pub mod Compile
 pub mod Check
@@ -10,6 +11,8 @@ pub mod Sessions
 pub mod Meter
 pub mod Answer
 pub mod Audit
+pub mod Cross
+pub mod Crossed
 pub mod Memory
 pub mod Arguments
 pub mod EveryDeal
@@ -20,3 +23,4 @@ pub mod Played
 pub mod PrintedLists
 pub mod Losses
 pub mod Moments
+pub mod Chances

@@ -19,7 +19,7 @@ use Rattle.vp_run.specs.Commands.{command_of}
 use Rattle.vp_run.specs.declared.command.Command.TheVariants.{Over}
 use Rattle.vp_run.specs.declared.command.Task.TheVariants.{Audit}
 
--- The answer are the lines of a list, the loss among them. It is the sum over all deals of the best values, less that of the least
+-- The answer is the lines of a list, the loss among them. It is the sum over all deals of the best values, less that of the least
 -- values, none of which exceeds the best value of its deal. Where an exception is of a deal's class, the deal is worth what the
 -- exception's hold of the representative is; else, where a rule is the first that matches some hold, the least (greatest) value is the
 -- least (greatest) among the holds that this rule matches; else the deal is worth what holding nothing is. The deals of the tallies sum

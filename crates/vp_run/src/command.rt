@@ -17,6 +17,8 @@ pub enum Task {
     Certify(u8),
     /// `audit COIN`: what a strategy list loses, for a bet of 1 to 5 coins.
     Audit(u8),
+    /// `cross COIN`: what one pay table's best play costs on another, for a bet of 1 to 5 coins.
+    Cross(u8),
     /// `check FROM COUNT`: what is wrong with a certificate. The values of COUNT class lines from the place FROM on,
     /// counted from 1, are reckoned again by walking all draws.
     Check {
@@ -41,6 +43,8 @@ pub enum Task {
         coin: u8,
         hands: u8,
     },
+    /// `hits COIN`: how often each pay line comes under the printed holds, for a bet of 1 to 5 coins.
+    Hits(u8),
     /// `play COIN SEED GAMES`: the numbers of a log of 1 to 100000 games that is made from a seed, for a bet of 1 to 5
     /// coins.
     Play {
@@ -101,9 +105,11 @@ fn task_of(word: &str, numbers: &[&str]) -> Option<Task>
         "deal" => bet(numbers).map(Task::Deal),
         "certify" => bet(numbers).map(Task::Certify),
         "audit" => bet(numbers).map(Task::Audit),
+        "cross" => bet(numbers).map(Task::Cross),
         "check" => lines(numbers),
         "meter" => meter(numbers),
         "multi" => hands(numbers),
+        "hits" => bet(numbers).map(Task::Hits),
         "play" => play(numbers),
         "compile" => compile(numbers),
         _ => None,

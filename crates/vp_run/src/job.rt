@@ -3,15 +3,17 @@
 ghost use Rattle.std.specs.Prelude.{◌≡◌, ◌≤◌, length};
 ghost use Rattle.vp_loggram.specs.Logs.{IsLog};
 ghost use Rattle.vp_pay.specs.Table.{IsTable};
-ghost use Rattle.vp_run.specs.Answer.{certify_job, check_read, deal_job, job_of, log_read, read_as, replay_read, meter_job, audit_job, multi_job, play_job, compile_job, sessions_job};
+ghost use Rattle.vp_run.specs.Answer.{certify_job, check_read, deal_job, job_of, log_read, read_as, replay_read, meter_job, audit_job, multi_job, play_job, compile_job, sessions_job, cross_job, hits_job};
 ghost use Rattle.vp_run.specs.Audit.{audit_input};
 ghost use Rattle.vp_run.specs.Certify.{certify_input};
+ghost use Rattle.vp_run.specs.Cross.{cross_input};
 ghost use Rattle.vp_run.specs.Commands.{InRange};
 ghost use Rattle.vp_run.specs.Deal.{deal_input};
 ghost use Rattle.vp_run.specs.Replay.{replay_input};
 ghost use Rattle.vp_run.specs.Sessions.{sessions_input};
 ghost use Rattle.vp_run.specs.Meter.{meter_input};
 ghost use Rattle.vp_run.specs.Multi.{multi_input};
+ghost use Rattle.vp_run.specs.Hits.{hits_input};
 ghost use Rattle.vp_run.specs.Play.{play_input};
 ghost use Rattle.vp_run.specs.Compile.{compile_input};
 
@@ -20,7 +22,9 @@ use crate::certify::{CertifyJob, read_certify_input};
 use crate::check::{put_checked, rule_of};
 use crate::command::Task;
 use crate::compile::{CompileJob, read_compile_input};
+use crate::cross::{CrossJob, read_cross_input};
 use crate::deal::{DealJob, read_deal_input};
+use crate::hits::HitsJob;
 use crate::meter::{MeterJob, read_meter_input};
 use crate::multi::MultiJob;
 use crate::play::PlayJob;
@@ -40,11 +44,13 @@ pub enum Job<'a> {
     Deal(DealJob),
     Certify(CertifyJob),
     Audit(AuditJob<'a>),
+    Cross(CrossJob),
     Checked(Checked),
     Replay(ReplayJob<'a>),
     Sessions(SessionsJob<'a>),
     Meter(MeterJob),
     Multi(MultiJob),
+    Hits(HitsJob),
     Play(PlayJob),
     Compile(CompileJob),
 }
@@ -64,11 +70,13 @@ impl<'a> Work for Job<'a> {
             Job::Deal(job) => job.words(),
             Job::Certify(job) => job.words(),
             Job::Audit(job) => job.words(),
+            Job::Cross(job) => job.words(),
             Job::Checked(_) => 0,
             Job::Replay(job) => job.words(),
             Job::Sessions(job) => job.words(),
             Job::Meter(job) => job.words(),
             Job::Multi(job) => job.words(),
+            Job::Hits(job) => job.words(),
             Job::Play(job) => job.words(),
             Job::Compile(job) => job.words(),
         }
@@ -79,10 +87,12 @@ impl<'a> Work for Job<'a> {
             Job::Deal(job) => job.put(region, sink),
             Job::Certify(job) => job.put(region, sink),
             Job::Audit(job) => job.put(region, sink),
+            Job::Cross(job) => job.put(region, sink),
             Job::Checked(checked) => put_checked(*checked, sink),
             Job::Replay(job) => job.put(region, sink),
             Job::Meter(job) => job.put(region, sink),
             Job::Multi(job) => job.put(region, sink),
+            Job::Hits(job) => job.put(region, sink),
             Job::Sessions(_) | Job::Play(_) | Job::Compile(_) => unreachable!(),
         }
     }
@@ -110,11 +120,13 @@ pub(crate) fn job_of(task: Task, bytes: &[u8]) -> Result<Job<'_>, Stop>
         Task::Deal(coin) => deal_job(coin, bytes),
         Task::Certify(coin) => certify_job(coin, bytes),
         Task::Audit(coin) => audit_job(coin, bytes),
+        Task::Cross(coin) => cross_job(coin, bytes),
         Task::Check { from, count } => check_job(check(bytes, from, count)),
         Task::Replay => replay_job(bytes),
         Task::Sessions => sessions_job(bytes),
         Task::Meter { coin, line, lo, hi } => meter_job(coin, &line, lo, hi, bytes),
         Task::Multi { coin, hands } => multi_job(coin, hands, bytes),
+        Task::Hits(coin) => hits_job(coin, bytes),
         Task::Play { coin, seed, games } => play_job(coin, seed, games, bytes),
         Task::Compile { coin, millionths } => compile_job(coin, millionths, bytes),
     }
@@ -168,6 +180,17 @@ fn multi_job(coin: u8, hands: u8, bytes: &[u8]) -> Result<Job<'_>, Stop>
     }
 }
 
+fn hits_job(coin: u8, bytes: &[u8]) -> Result<Job<'_>, Stop>
+    requires some { 1 ≤ coin }
+    requires limit { length bytes.now ≤ 67108864 }
+    ensures { result ≡ read_as (hits_job coin) (hits_input coin bytes.now) }
+{
+    match read_certify_input(bytes, coin) {
+        Ok(table) => Ok(Job::Hits(HitsJob::new(table, coin))),
+        Err(refused) => Err(Stop::Refused { line: refused.line }),
+    }
+}
+
 fn play_job(coin: u8, seed: u64, games: u32, bytes: &[u8]) -> Result<Job<'_>, Stop>
     requires some { 1 ≤ coin }
     requires games { 1 ≤ games }
@@ -200,6 +223,17 @@ fn audit_job(coin: u8, bytes: &[u8]) -> Result<Job<'_>, Stop>
 {
     match read_audit_input(bytes, coin) {
         Ok((table, list)) => Ok(Job::Audit(AuditJob::new(table, coin, list))),
+        Err(refused) => Err(Stop::Refused { line: refused.line }),
+    }
+}
+
+fn cross_job(coin: u8, bytes: &[u8]) -> Result<Job<'_>, Stop>
+    requires some { 1 ≤ coin }
+    requires limit { length bytes.now ≤ 67108864 }
+    ensures { result ≡ read_as (cross_job coin) (cross_input coin bytes.now) }
+{
+    match read_cross_input(bytes, coin) {
+        Ok((played, priced)) => Ok(Job::Cross(CrossJob::new(played, priced, coin))),
         Err(refused) => Err(Stop::Refused { line: refused.line }),
     }
 }

@@ -4,6 +4,8 @@ ghost use Rattle.vp_run.specs.Audit.{AuditInputsAreRead};
 ghost use Rattle.vp_run.specs.Certify.{CertifyInputsAreRead};
 ghost use Rattle.vp_run.specs.Check.{CertificatesAreJudged, CheckInputsAreEither, CheckInputsAreRefused};
 ghost use Rattle.vp_run.specs.Commands.{CommandsAreSpelled};
+ghost use Rattle.vp_run.specs.Cross.{CrossInputsAreRead};
+ghost use Rattle.vp_run.specs.Crossed.{CrossesPricePlay};
 ghost use Rattle.vp_run.specs.Deal.{DealInputsAreRead};
 ghost use Rattle.vp_run.specs.Replay.{ReplayInputsAreRead};
 ghost use Rattle.vp_run.specs.Replayed.{ReplaysTellCosts};
@@ -14,6 +16,8 @@ ghost use Rattle.vp_run.specs.EveryDeal.{CertificatesAreChecked, CertificatesTel
 ghost use Rattle.vp_run.specs.Meter.{MeterInputsAreRead};
 ghost use Rattle.vp_run.specs.Moments.{MultisPrintMoments};
 ghost use Rattle.vp_run.specs.Multi.{MultiInputsAreRead};
+ghost use Rattle.vp_run.specs.Chances.{HitsPrintChances};
+ghost use Rattle.vp_run.specs.Hits.{HitsInputsAreRead};
 ghost use Rattle.vp_run.specs.Play.{PlayInputsAreRead};
 ghost use Rattle.vp_run.specs.Played.{PlaysAreReplayed};
 ghost use Rattle.vp_run.specs.Losses.{AuditsPrintLosses};
@@ -48,10 +52,31 @@ pub fn audit_inputs_are_read()
     ensures { AuditInputsAreRead }
 {}
 
+/// What `cross` takes for its input is what the lines of the input spell: a valid pay table that has the bet, then a second
+/// one that has it, too, and the same deck, and nothing else. Every other input is refused, exactly at its refused line.
+pub fn cross_inputs_are_read()
+    ensures { CrossInputsAreRead }
+{}
+
+/// The answer of `cross` to each two pay tables that it takes prints what the best play of the first is worth on the second:
+/// each deal has a hold that the first table prints, one that some turn of the suits carries to the least best mask of its
+/// class, and all such holds have one value on the second table, the mean of its payments there; the printed sums are
+/// those of the best values, of these values and of their differences, over all deals. The printed class costs most, and
+/// there is none exactly where nothing is lost.
+pub fn crosses_price_play()
+    ensures { CrossesPricePlay }
+{}
+
 /// What `multi` takes for its input is what the lines of the input spell: a valid pay table that has the bet, and nothing
 /// else. Every other input is refused, exactly at its refused line.
 pub fn multi_inputs_are_read()
     ensures { MultiInputsAreRead }
+{}
+
+/// What `hits` takes for its input is what the lines of the input spell: a valid pay table that has the bet, and nothing
+/// else. Every other input is refused, exactly at its refused line.
+pub fn hits_inputs_are_read()
+    ensures { HitsInputsAreRead }
 {}
 
 /// What `play` takes for its input is what the lines of the input spell: a valid pay table that has the bet, and nothing
@@ -174,6 +199,13 @@ pub fn audits_print_losses()
 /// once for each pair of hands.
 pub fn multis_print_moments()
     ensures { MultisPrintMoments }
+{}
+
+/// The answer of `hits` to each pay table that it takes prints the chances of the pay lines under the printed holds: each
+/// deal has a printed hold, and all that it has are best and end with each line as often; the printed numbers are the sums
+/// of these chances over all deals. Together with that of no line they make all draws, and what the lines pay is the return.
+pub fn hits_print_chances()
+    ensures { HitsPrintChances }
 {}
 
 /// What `compile` takes for its input is what the lines of the input spell: a valid pay table that has the bet, then a pool

@@ -5,7 +5,7 @@ use crate::tests::tables::{ROOM, answered, joined};
 use crate::{Status, vpoker, vpoker_in_blocks};
 use std::test::*;
 use vp_io::{CountSink, MemSink, MemSource, PureSource};
-use vp_pay::samples::JACKS;
+use vp_pay::samples::{JACKS, ONE_JOKER, ZERO};
 
 #[test]
 fn every_read_fails_once(rt: HostRuntime) -> Result<(), Fail> {
@@ -46,6 +46,46 @@ fn every_write_fails_once(rt: HostRuntime) -> Result<(), Fail> {
         } else {
             assert_eq!(rt; status, Status::Done);
             assert_eq!(rt; taken, ROYAL_DRAW_ANSWER);
+        }
+    }
+    Ok(())
+}
+
+// The first read brings the input, and the second its end. The texts have two lines or more, which are a write each.
+#[test]
+fn faults_of_each_command(rt: HostRuntime) -> Result<(), Fail> {
+    let cases: [(&[&str], &[u8], &[u8]); 7] = [
+        (&["audit", "1"], ONE_JOKER, b"list\nrule hold 1\nend\n"),
+        (
+            &["compile", "1", "0"],
+            ONE_JOKER,
+            b"pool\nrule hold 1\nend\n",
+        ),
+        (&["replay"], ONE_JOKER, b"log 7\nend\n"),
+        (&["meter", "1", "joker", "0", "1"], ONE_JOKER, b""),
+        (&["multi", "1", "2"], ONE_JOKER, b""),
+        (&["hits", "1"], ONE_JOKER, b""),
+        (&["play", "1", "0", "1"], ZERO, b""),
+    ];
+    for (words, table, section) in cases {
+        let input = joined(rt.alloc(), table, section)?;
+        let (_, due) = answered(rt.alloc(), words, &input, ROOM)?;
+        for k in [1, 2] {
+            let fails = [k];
+            let mut source = MemSource::new(&input, 512, &fails);
+            let mut room = [0; 512];
+            let mut sink = MemSink::new(&mut room, 512, &[]);
+            let status = vpoker(rt.alloc(), words, &mut source, &mut sink);
+            assert_eq!(rt; status, Status::ReadFault);
+            assert_eq!(rt; sink.taken().len(), 0);
+            let mut whole = PureSource::new(&input);
+            let mut taken = [0; 512];
+            let mut sink = MemSink::new(&mut taken, 512, &fails);
+            let status = vpoker(rt.alloc(), words, &mut whole, &mut sink);
+            assert_eq!(rt; status, Status::WriteFault);
+            assert_eq!(rt; sink.taken().is_empty(), k == 1);
+            assert!(rt; sink.taken().len() < due.len());
+            assert!(rt; due.starts_with(sink.taken()));
         }
     }
     Ok(())

@@ -18,7 +18,7 @@ fn stands_in(text: &[u8], part: &[u8]) -> bool {
 #[test]
 fn meters(rt: HostRuntime) -> Result<(), Fail> {
     let cases: [(&[u8], [&str; 5], &[u8], &[u8], &[u8]); 3] = [
-        // At 216 a pat straight and the draw to the royal flush are worth the same.
+        // At 216 a pat flush and the draw to the royal flush are worth the same.
         (
             JACKS,
             ["meter", "1", "royal", "0", "1000"],

@@ -1,6 +1,6 @@
 use Rattle.std.proofs.Common.{◌≡◌, ◌<◌, length, arith, sym, ap, ◌∙◌}
 use Rattle.std.proofs.lemmas.List.Edits.{map_over_more}
-use Rattle.vp_csv.specs.Kept.{Kept, closed}
+use Rattle.vp_csv.specs.Kept.{closed}
 use Rattle.vp_csv.proofs.kept.close_all.Goals as goal
 
 pub loop-session-preserved : goal.loop-session-preserved

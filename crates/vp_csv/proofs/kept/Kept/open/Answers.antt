@@ -1,9 +1,7 @@
-use Rattle.std.proofs.Common.{rules, ◌≡◌, ◌+◌, ◌<◌, ◌≤◌, ◌++◌, ◌∷◌, [], List, ℕ, length, arith, sym, ap, ◌∙◌, refl}
-use Rattle.std.specs.Prelude.{codes}
+use Rattle.std.proofs.Common.{◌≡◌, ◌++◌, length, arith, ap, refl}
 use Rattle.std.specs.Fmt.{decimal}
-use Rattle.vp_text.specs.Written.{line_of, with_word}
 use Rattle.vp_text.proofs.Room.{digits_of_64, length_with_word}
-use Rattle.vp_csv.specs.Kept.{Kept, start_line}
+use Rattle.vp_csv.specs.Kept.{start_line}
 use Rattle.vp_csv.proofs.kept.Kept.open.Goals as goal
 
 pub number-requires : goal.number-requires

@@ -1,5 +1,5 @@
-use Rattle.std.proofs.Common.{◌≡◌, ◌∙◌, refl, sym, Some, inl, inr}
-use Rattle.vp_csv.specs.Left.{left_of, left_from, Keeps}
+use Rattle.std.proofs.Common.{◌∙◌, refl, inr}
+use Rattle.vp_csv.specs.Left.{left_of, Keeps}
 use Rattle.vp_csv.specs.Records.{records_in}
 use Rattle.vp_csv.proofs.records.Records.new.Goals as goal
 

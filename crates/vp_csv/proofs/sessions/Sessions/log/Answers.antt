@@ -1,4 +1,4 @@
-use Rattle.std.proofs.Common.{◌≡◌, ◌<◌, length, arith, sym, subst, ap, ◌∙◌}
+use Rattle.std.proofs.Common.{◌<◌, length, arith, subst, ap}
 use Rattle.vp_pay.specs.Written.{StandsIn}
 use Rattle.vp_loggram.specs.Spelling.{log_text}
 use Rattle.vp_csv.specs.Sessions.{Sorted, session_at}

@@ -1,7 +1,7 @@
 use Rattle.std.proofs.Common.{◌≡◌, map, ap, ◌∙◌}
-use Rattle.vp_csv.specs.Kept.{closed, kept_in}
+use Rattle.vp_csv.specs.Kept.{closed}
 use Rattle.vp_csv.specs.Records.{records_in}
-use Rattle.vp_csv.specs.Sessions.{behind_first, sessions_of}
+use Rattle.vp_csv.specs.Sessions.{sessions_of}
 use Rattle.vp_csv.proofs.Closing.{are_kept, sorted_is}
 use Rattle.vp_csv.proofs.sessions.Sessions.read.Goals as goal
 

@@ -1,0 +1,311 @@
+-- The number of each hand's line, and what the sums of such numbers tell of a hold.
+use Rattle.std.proofs.Common.{◌≡◌, ◌⊎◌, ◌≢◌, inl, inr, ℕ, zero, suc, ◌+◌, ◌-◌, ◌*◌, ◌/◌, ◌%◌, ◌^◌, ◌<◌, ◌≤◌, Bool, true, false, List, [], ◌∷◌, Option, Some, None, length, get_or, set, replicate, refl, sym, ap, subst, ◌∙◌, arith, lit≤, length-set, get_or-set_same}
+use Rattle.std.proofs.Math.Path.{fun_ext}
+use Rattle.std.proofs.Math.Nat.{mul-le-mul_right, mul_assoc, mul_comm}
+use Rattle.std.specs.Prelude.{sum_by, if◌then◌else◌, ◌==◌, slice_index, position, IfSome}
+use Rattle.std.specs.List.{All}
+use Rattle.std.proofs.lemmas.Bool.Decides.{nat_tests}
+use Rattle.std.proofs.lemmas.List.Quantifiers.{position-Some}
+use Rattle.std.proofs.lemmas.Bool.{cases_eq}
+use Rattle.std.proofs.lemmas.List.{get_or-set_other, get_or_past, length-replicate}
+use Rattle.std.proofs.lemmas.List.Elements.{All-from_get_or, All-get_or}
+use Rattle.std.proofs.lemmas.List.Sums.{sum_by-cons}
+use Rattle.vp_card.specs.Cards.{IsDeck, IsHand, held, in_deck, joined}
+use Rattle.vp_pay.specs.declared.pattern.Pattern.TheVariants.{Royal}
+use Rattle.vp_pay.specs.declared.pattern.Qualifier.TheVariants.{Either}
+use Rattle.vp_pay.specs.declared.table.PayLine.{PayLine}
+use Rattle.vp_pay.specs.declared.table.PayTable.{PayTable}
+use Rattle.vp_pay.specs.Table.{IsTable}
+use Rattle.vp_sets.specs.Sets.{choose}
+use Rattle.vp_sets.specs.Draws.{common, discarded, draws, scale, sum_over_draws}
+use Rattle.vp_sets.proofs.Binomials.{choose_le}
+use Rattle.vp_sets.proofs.Colex.{hand_is_set}
+use Rattle.vp_sets.proofs.Denominators.{common_small, scale_exact}
+use Rattle.vp_sets.proofs.Holds.{Dealt, dealt_from, length-held, sum_over_draws_le}
+use Rattle.vp_sets.proofs.Pascal.{ways_are}
+use Rattle.vp_wild.specs.Payment.{first_line, line}
+use Rattle.vp_wild.specs.Payment.{hits as line_matches}
+use Rattle.vp_count.specs.Sums.{hand_numbers, spread}
+use Rattle.vp_count.specs.Table.{AreSumsOf, Table}
+use Rattle.vp_count.proofs.HandNumbers.{spread_of}
+use Rattle.vp_hits.specs.Hits.{AreHits, Asked, chance, hit, hits, is_asked, mark}
+use Rattle.vp_hits.specs.Numbers.{AreNumbers, AreTwoHits, AskedTwo, number_of, place_among, told, two_hits, two_marks}
+
+-- ---- the line of a hand
+
+pub nothing : PayLine
+nothing = record { name = []; pattern = Royal; qualifier = Either; pays = [] }
+
+pub inside : (table : PayTable) (hand : List ℕ) (j : ℕ) → line table hand ≡ Some j → j < length table.lines.items
+unfolding first_line
+inside table hand j e = (position-Some (λ (l : PayLine). line_matches table.wild l hand) table.lines.items j nothing e).0
+
+-- it is one of at most 32 lines
+few_lines : (table : PayTable) (hand : List ℕ) → IsTable table → IfSome (line table hand) (λ place. place < 32)
+few_lines table hand t = by_line (line table hand) refl
+  where
+    by_line : (o : Option ℕ) → line table hand ≡ o → IfSome o (λ place. place < 32)
+    by_line None e = tt
+    by_line (Some j) e = omega (arith, inside table hand j e, t.most_lines)
+
+-- where a place is among the lines
+pub within : (o : Option ℕ) (many : ℕ) → many ≤ 32 → IfSome o (λ place. place < many) → IfSome o (λ place. place < 32)
+within None many l h = tt
+within (Some place) many l h = omega arith
+
+-- ---- numbers by line
+
+pub mark_le : (place found : Option ℕ) → mark place found ≤ 1
+mark_le place found = by_test (is_asked place found)
+  where
+    by_test : (b : Bool) → (if b then 1 else 0) ≤ 1
+    by_test true = omega arith
+    by_test false = omega arith
+
+-- if the numbers are those of f for all lines, the sums are those of what f makes of the hands' lines
+pub sums_told : (table : PayTable) (f : Option ℕ → ℕ) (numbers : List ℕ) (sums : Table) → IsTable table → AreNumbers f numbers → AreSumsOf table.deck (told table numbers) sums
+    → AreSumsOf table.deck (λ hand. f (line table hand)) sums
+sums_told table f numbers sums t are s =
+    let same : told table numbers ≡ (λ (hand : List ℕ). f (line table hand)) = fun_ext (λ hand. are.told (line table hand) (few_lines table hand t)) in
+    record { size = s.size; numbers = s.numbers ∙ ap (hand_numbers table.deck) same }
+
+pub hits_told : (asked : Asked) (numbers : List ℕ) (sums : Table) → IsTable asked.table → AreNumbers (mark asked.line) numbers → AreSumsOf asked.table.deck (told asked.table numbers) sums
+    → AreSumsOf asked.table.deck (hit asked.table asked.line) sums
+unfolding hit
+hits_told asked numbers sums t are s = sums_told asked.table (mark asked.line) numbers sums t are s
+
+pub two_told : (asked : AskedTwo) (numbers : List ℕ) (sums : Table) → IsTable asked.table → AreNumbers (two_marks asked.first asked.second) numbers → AreSumsOf asked.table.deck (told asked.table numbers) sums
+    → AreSumsOf asked.table.deck (two_hits asked.table asked.first asked.second) sums
+unfolding hit
+two_told asked numbers sums t are s = sums_told asked.table (two_marks asked.first asked.second) numbers sums t are s
+
+-- ---- chances out of the sums
+
+of_asked : (asked own : Asked) (scales : List ℕ) (sums : Table) → own ≡ asked → AreHits own scales sums → AreHits asked scales sums
+of_asked asked own scales sums e h = subst (λ (a : Asked). AreHits a scales sums) e h
+
+pub hit_le : (table : PayTable) (place : Option ℕ) (hand : List ℕ) → hit table place hand ≤ 1
+unfolding hit
+hit_le table place hand = mark_le place (line table hand)
+
+sum_of_hits : (table : PayTable) (place : Option ℕ) (hand : List ℕ) (mask : ℕ) → IsHand hand → in_deck table.deck hand ≡ true → spread table.deck (hand_numbers table.deck (hit table place)) hand mask ≡ hits table place hand mask
+unfolding hits
+sum_of_hits table place hand mask h d = spread_of table.deck (hit table place) hand mask (hand_is_set table.deck hand h d) h.five
+
+-- what the sums of some numbers tell of a hold
+counted : (n : ℕ) (f : List ℕ → ℕ) (sums : Table) (hand cards : List ℕ) (mask size : ℕ) (numbers : List ℕ) (sum : ℕ)
+    → AreSumsOf n f sums → cards ≡ hand → size ≡ sums.size → numbers ≡ sums.numbers → sum ≡ spread size numbers cards mask → sum ≡ spread n (hand_numbers n f) hand mask
+counted n f sums hand cards mask size numbers sum b same s w is =
+    is
+    ∙ ap (λ m. spread m numbers cards mask) (s ∙ b.size)
+    ∙ ap (λ (x : List ℕ). spread n x cards mask) (w ∙ b.numbers)
+    ∙ ap (λ (x : List ℕ). spread n (hand_numbers n f) x mask) same
+
+pub told_hits : (asked own : Asked) (scales : List ℕ) (sums : Table) (hand cards : List ℕ) (mask size : ℕ) (numbers : List ℕ) (sum : ℕ)
+    → own ≡ asked → AreHits own scales sums → IsHand hand → in_deck asked.table.deck hand ≡ true → cards ≡ hand
+    → size ≡ sums.size → numbers ≡ sums.numbers → sum ≡ spread size numbers cards mask → sum ≡ hits asked.table asked.line hand mask
+told_hits asked own scales sums hand cards mask size numbers sum e g h d same s w is =
+    let b : AreHits asked scales sums = of_asked asked own scales sums e g in
+    counted asked.table.deck (hit asked.table asked.line) sums hand cards mask size numbers sum b.counted same s w is ∙ sum_of_hits asked.table asked.line hand mask h d
+
+times_scale : (x m c s l : ℕ) → x ≤ m * c → s * c ≡ l → x * s ≤ m * l
+times_scale x m c s l h e =
+    let p : x * s ≤ (m * c) * s = mul-le-mul_right s h in
+    let q : (m * c) * s ≡ m * l = mul_assoc m c s ∙ ap (λ y. m * y) (mul_comm c s ∙ e) in
+    rw q at p
+
+-- a hold hits a line at most as often as it has draws
+hits_le : (table : PayTable) (place : Option ℕ) (hand : List ℕ) (mask : ℕ) → Dealt table.deck hand → hits table place hand mask ≤ 1 * choose (table.deck - 5) (length (discarded mask hand))
+unfolding hits
+hits_le table place hand mask d = sum_over_draws_le (hit table place) 1 table.deck hand mask d (λ h. hit_le table place h)
+
+few_discarded : (n : ℕ) (hand : List ℕ) (mask : ℕ) → Dealt n hand → length (discarded mask hand) ≤ 5
+few_discarded n hand mask d = omega (arith, length-held mask hand, d.five)
+
+-- no chance is above one
+pub chance_le : (table : PayTable) (place : Option ℕ) (hand : List ℕ) (mask : ℕ) → IsTable table → Dealt table.deck hand → chance table place hand mask ≤ common table.deck
+unfolding chance
+chance_le table place hand mask t d =
+    let k : ℕ = length (discarded mask hand) in
+    let one : hits table place hand mask * scale table.deck k ≤ 1 * common table.deck =
+    times_scale (hits table place hand mask) 1 (choose (table.deck - 5) k) (scale table.deck k) (common table.deck) (hits_le table place hand mask d) (scale_exact table.deck k t.known_deck (few_discarded table.deck hand mask d)) in
+    omega (arith, one)
+
+chance_is : (table : PayTable) (place : Option ℕ) (hand : List ℕ) (mask : ℕ) → hits table place hand mask * scale table.deck (length (discarded mask hand)) ≡ chance table place hand mask
+unfolding chance
+chance_is table place hand mask = refl
+
+-- a number of hits and its scale, of which a chance is made
+pub record Scaled (table : PayTable) (place : Option ℕ) (hand : List ℕ) (mask sum factor : ℕ) : Type 0 where
+  pub fits : sum * factor < 2 ^ 64
+  pub chance : sum * factor ≡ chance table place hand mask
+
+scaled_by : (table : PayTable) (place : Option ℕ) (hand : List ℕ) (mask sum factor : ℕ) → IsTable table → IsHand hand → in_deck table.deck hand ≡ true
+    → factor ≡ scale table.deck (length (discarded mask hand)) → sum ≡ hits table place hand mask → Scaled table place hand mask sum factor
+scaled_by table place hand mask sum factor t h d f is =
+    let value : sum * factor ≡ chance table place hand mask = rw (is, f) (chance_is table place hand mask) in
+    record {
+      fits = omega (arith, value, chance_le table place hand mask t (dealt_from table.deck hand h d), common_small table.deck t.known_deck);
+      chance = value;
+    }
+
+pub scaled_to : (asked own : Asked) (scales : List ℕ) (sums : Table) (hand : List ℕ) (mask sum : ℕ) → own ≡ asked → AreHits own scales sums → IsHand hand → in_deck asked.table.deck hand ≡ true → mask < 32
+    → sum ≡ hits asked.table asked.line hand mask → Scaled asked.table asked.line hand mask sum (get_or scales mask 0)
+scaled_to asked own scales sums hand mask sum e g h d l is =
+    let b : AreHits asked scales sums = of_asked asked own scales sums e g in
+    scaled_by asked.table asked.line hand mask sum (get_or scales mask 0) b.rules h d (b.scaled hand mask h.five l) is
+
+-- ---- two lines at once
+
+sum_two : {A : Type 0} (f g : A → ℕ) (xs : List A) → sum_by (λ x. f x + 2097152 * g x) xs ≡ sum_by f xs + 2097152 * sum_by g xs
+sum_two f g [] = omega arith
+sum_two f g (x ∷ xs) =
+    let ih = sum_two f g xs in
+    let whole = sum_by-cons (λ a. f a + 2097152 * g a) x xs in
+    let left = sum_by-cons f x xs in
+    let right = sum_by-cons g x xs in
+    omega arith
+
+sum_of_two : (table : PayTable) (first second : Option ℕ) (hand : List ℕ) (mask : ℕ) → IsHand hand → in_deck table.deck hand ≡ true
+    → spread table.deck (hand_numbers table.deck (two_hits table first second)) hand mask ≡ hits table first hand mask + 2097152 * hits table second hand mask
+unfolding hits sum_over_draws
+sum_of_two table first second hand mask h d =
+    spread_of table.deck (two_hits table first second) hand mask (hand_is_set table.deck hand h d) h.five
+    ∙ sum_two (λ drawn. hit table first (joined (held mask hand) drawn)) (λ drawn. hit table second (joined (held mask hand) drawn)) (draws table.deck hand mask)
+
+-- no hold has more draws than five cards out of 49
+draws_few : (k : ℕ) → k ≤ 5 → choose 49 k ≤ 1906884
+draws_few zero l = omega (arith, ways_are 49 0 (lit≤ tt) (lit≤ tt))
+draws_few (suc zero) l = omega (arith, ways_are 49 1 (lit≤ tt) (lit≤ tt))
+draws_few (suc (suc zero)) l = omega (arith, ways_are 49 2 (lit≤ tt) (lit≤ tt))
+draws_few (suc (suc (suc zero))) l = omega (arith, ways_are 49 3 (lit≤ tt) (lit≤ tt))
+draws_few (suc (suc (suc (suc zero)))) l = omega (arith, ways_are 49 4 (lit≤ tt) (lit≤ tt))
+draws_few (suc (suc (suc (suc (suc zero))))) l = omega (arith, ways_are 49 5 (lit≤ tt) (lit≤ tt))
+draws_few (suc (suc (suc (suc (suc (suc k)))))) l = absurd (omega arith)
+
+hits_few : (table : PayTable) (place : Option ℕ) (hand : List ℕ) (mask : ℕ) → IsTable table → Dealt table.deck hand → hits table place hand mask < 2097152
+hits_few table place hand mask t d =
+    let k : ℕ = length (discarded mask hand) in
+    let least : table.deck - 5 ≤ 49 = omega (arith, t.known_deck.1) in
+    omega (arith, hits_le table place hand mask d, choose_le (table.deck - 5) 49 k least, draws_few k (few_discarded table.deck hand mask d))
+
+-- both numbers of hits
+record Parted (one other sum : ℕ) : Type 0 where
+  pub first : sum % 2097152 ≡ one
+  pub second : sum / 2097152 ≡ other
+
+parted : (one other sum : ℕ) → one < 2097152 → sum ≡ one + 2097152 * other → Parted one other sum
+parted one other sum l e = record { first = omega (arith, e); second = omega (arith, e) }
+
+of_two : (asked own : AskedTwo) (scales : List ℕ) (sums : Table) → own ≡ asked → AreTwoHits own scales sums → AreTwoHits asked scales sums
+of_two asked own scales sums e h = subst (λ (a : AskedTwo). AreTwoHits a scales sums) e h
+
+-- what the sums of two lines tell of a hold
+pub record Two (asked : AskedTwo) (hand : List ℕ) (mask sum factor : ℕ) : Type 0 where
+  pub first : Scaled asked.table asked.first hand mask (sum % 2097152) factor
+  pub second : Scaled asked.table asked.second hand mask (sum / 2097152) factor
+
+pub told_two : (asked own : AskedTwo) (scales : List ℕ) (sums : Table) (hand cards : List ℕ) (mask size : ℕ) (numbers : List ℕ) (sum : ℕ)
+    → own ≡ asked → AreTwoHits own scales sums → IsHand hand → in_deck asked.table.deck hand ≡ true → mask < 32 → cards ≡ hand
+    → size ≡ sums.size → numbers ≡ sums.numbers → sum ≡ spread size numbers cards mask → Two asked hand mask sum (get_or scales mask 0)
+told_two asked own scales sums hand cards mask size numbers sum e g h d l same s w is =
+    let b : AreTwoHits asked scales sums = of_two asked own scales sums e g in
+    let table = asked.table in
+    let whole : sum ≡ hits table asked.first hand mask + 2097152 * hits table asked.second hand mask =
+    counted table.deck (two_hits table asked.first asked.second) sums hand cards mask size numbers sum b.counted same s w is ∙ sum_of_two table asked.first asked.second hand mask h d in
+    let parts = parted (hits table asked.first hand mask) (hits table asked.second hand mask) sum (hits_few table asked.first hand mask b.rules (dealt_from table.deck hand h d)) whole in
+    record {
+      first = scaled_by table asked.first hand mask (sum % 2097152) (get_or scales mask 0) b.rules h d (b.scaled hand mask h.five l) parts.first;
+      second = scaled_by table asked.second hand mask (sum / 2097152) (get_or scales mask 0) b.rules h d (b.scaled hand mask h.five l) parts.second;
+    }
+
+-- ---- bounds on the numbers
+
+-- past the end of a list stands 0
+small_at : (m : ℕ) (numbers : List ℕ) (i : ℕ) → All (λ x. x ≤ m) numbers → slice_index numbers i ≤ m
+small_at m numbers i all = elim (inside_or_past i (length numbers)) [
+  | inl l ↦ All-get_or (λ x. x ≤ m) numbers i 0 l all
+  | inr p ↦ (let e : get_or numbers i 0 ≡ 0 = get_or_past numbers i 0 p in omega arith)
+]
+  where
+    inside_or_past : (i n : ℕ) → (i < n) ⊎ (n ≤ i)
+    inside_or_past i n = grind arith
+
+pub number_le : (table : PayTable) (numbers : List ℕ) (hand : List ℕ) → All (λ x. x ≤ 250000000000) numbers → told table numbers hand ≤ 250000000000
+number_le table numbers hand all = small_at 250000000000 numbers (place_among (line table hand)) all
+
+-- if all numbers of lines are small, so are all that the list has
+pub numbers_small : (f : Option ℕ → ℕ) (m : ℕ) (numbers : List ℕ) → AreNumbers f numbers → ((found : Option ℕ) → f found ≤ m) → All (λ x. x ≤ m) numbers
+unfolding place_among
+numbers_small f m numbers are small = All-from_get_or (λ x. x ≤ m) numbers 0 each
+  where
+    each : (i : ℕ) → i < length numbers → get_or numbers i 0 ≤ m
+    each i l = elim (line_or_none i) [
+      | inl line ↦ (let e : get_or numbers i 0 ≡ f (Some i) = are.told (Some i) line in omega (arith, small (Some i)))
+      | inr past ↦ (let e : get_or numbers 32 0 ≡ f None = are.told None tt in let last : i ≡ 32 = omega (arith, are.long) in rw last (omega (arith, small None)))
+    ]
+      where
+        line_or_none : (i : ℕ) → (i < 32) ⊎ (32 ≤ i)
+        line_or_none i = grind arith
+
+-- ---- numbers, one line more
+
+-- a number that is added at the place of a line is added for its hands alone
+mark_same : (place found : Option ℕ) → IfSome place (λ i. i < 32) → IfSome found (λ i. i < 32) → place_among found ≡ place_among place → mark place found ≡ 1
+unfolding place_among is_asked
+mark_same None None h k e = refl
+mark_same None (Some j) h k e = absurd (omega arith)
+mark_same (Some i) None h k e = absurd (omega arith)
+mark_same (Some i) (Some j) h k e = ap (λ (b : Bool). if b then 1 else 0) (equal i j (sym e))
+  where
+    equal : (i j : ℕ) → i ≡ j → (i == j) ≡ true
+    equal i j e = grind (arith, nat_tests)
+
+mark_other : (place found : Option ℕ) → place_among found ≢ place_among place → mark place found ≡ 0
+unfolding place_among is_asked
+mark_other None None other = absurd (other refl)
+mark_other None (Some j) other = refl
+mark_other (Some i) None other = refl
+mark_other (Some i) (Some j) other = ap (λ (b : Bool). if b then 1 else 0) (different i j (λ e. other (sym e)))
+  where
+    different : (i j : ℕ) → i ≢ j → (i == j) ≡ false
+    different i j other = grind (arith, nat_tests)
+
+pub numbers_more : (f : Option ℕ → ℕ) (numbers : List ℕ) (place : Option ℕ) (p v x : ℕ) → p ≡ place_among place → p < 33 → IfSome place (λ i. i < 32) → x ≡ get_or numbers p 0 + v → AreNumbers f numbers
+    → AreNumbers (λ found. f found + v * mark place found) (set numbers p x)
+numbers_more f numbers place p v x is small h sum are = record {
+  long = length-set numbers p x ∙ are.long;
+  told = λ found k. elim (cases_eq (place_among found) p) [
+    | inl same ↦ (let marked : mark place found ≡ 1 = mark_same place found h k (same ∙ is) in
+        let here : get_or (set numbers p x) (place_among found) 0 ≡ x = ap (λ j. get_or (set numbers p x) j 0) same ∙ get_or-set_same numbers p x 0 (omega (arith, are.long)) in
+        let was : get_or numbers p 0 ≡ f found = ap (λ j. get_or numbers j 0) (sym same) ∙ are.told found k in
+        here ∙ sum ∙ rw (marked, was) (once (f found) v))
+    | inr other ↦ (let marked : mark place found ≡ 0 = mark_other place found (λ e. other (e ∙ sym is)) in
+        get_or-set_other numbers p (place_among found) x 0 other ∙ are.told found k ∙ rw marked (none (f found) v))
+  ];
+}
+  where
+    once : (a v : ℕ) → a + v ≡ a + v * 1
+    once a v = omega arith
+
+    none : (a v : ℕ) → a ≡ a + v * 0
+    none a v = omega arith
+
+abbrev zeros : ℕ → List ℕ
+zeros n = replicate n 0
+
+nought_at : (n i : ℕ) → get_or (zeros n) i 0 ≡ 0
+nought_at zero i = refl
+nought_at (suc n) zero = refl
+nought_at (suc n) (suc i) = nought_at n i
+
+no_numbers : AreNumbers (λ found. 0) (zeros 33)
+no_numbers = record { long = length-replicate {A = ℕ} 33 0; told = λ found h. nought_at 33 (place_among found) }
+
+pub one_number : (place : Option ℕ) (p : ℕ) → p ≡ place_among place → p < 33 → IfSome place (λ i. i < 32) → AreNumbers (mark place) (set (zeros 33) p 1)
+one_number place p is small h =
+    let more = numbers_more (λ found. 0) (zeros 33) place p 1 1 is small h (ap (λ n. n + 1) (sym (nought_at 33 p))) no_numbers in
+    record { long = more.long; told = λ found k. more.told found k ∙ once (mark place found) }
+  where
+    once : (n : ℕ) → 0 + 1 * n ≡ n
+    once n = omega arith

@@ -1,0 +1,6 @@
+pub mod Chances
+pub mod Weighed
+pub mod Printed
+pub mod Shares
+pub mod Masks
+pub mod AskedLines

@@ -1,0 +1,70 @@
+-- A number for each pay line of a table, and one for the hands with no line.
+use Rattle.std.specs.Prelude.{◌≡◌, ℕ, ◌+◌, ◌*◌, ◌<◌, ◌≤◌, List, [], Option, Some, None, IfSome, nat_lt, if◌then◌else◌, length, slice_index, slice_index_or}
+use Rattle.vp_pay.specs.declared.table.PayTable.{PayTable}
+use Rattle.vp_pay.specs.Bets.{IsBet}
+use Rattle.vp_pay.specs.Table.{IsTable}
+use Rattle.vp_suit.specs.Classes.{representatives}
+use Rattle.vp_wild.specs.Payment.{line}
+use Rattle.vp_draws.specs.Draws.{least_best, sum_of_best}
+use Rattle.vp_count.specs.Table.{AreSumsOf, Table}
+use Rattle.vp_hold.specs.Games.{AreScales}
+use Rattle.vp_hits.specs.Hits.{hit, mark}
+
+-- where the number of the line found stands: that of no line behind those of at most 32 lines
+unfoldable pub place_among : Option ℕ → ℕ
+place_among None = 32
+place_among (Some place) = place
+
+-- the number of the line found, out of a list
+abbrev pub number_of : List ℕ → Option ℕ → ℕ
+number_of numbers found = slice_index numbers (place_among found)
+
+-- the number of a hand
+abbrev pub told : PayTable → List ℕ → List ℕ → ℕ
+told table numbers hand = number_of numbers (line table hand)
+
+-- the numbers are those that f gives for the line found
+pub record AreNumbers (f : Option ℕ → ℕ) (numbers : List ℕ) : Type 0 where
+  pub long : length numbers ≡ 33
+  pub told : (found : Option ℕ) → IfSome found (λ place. place < 32) → number_of numbers found ≡ f found
+
+-- two lines at once: a hit of the second counts more than all draws of a hold
+abbrev pub two_marks : Option ℕ → Option ℕ → Option ℕ → ℕ
+two_marks first second found = mark first found + 2097152 * mark second found
+
+abbrev pub two_hits : PayTable → Option ℕ → Option ℕ → List ℕ → ℕ
+two_hits table first second hand = hit table first hand + 2097152 * hit table second hand
+
+-- a pay table and two of its lines
+pub record AskedTwo : Type 0 where
+  pub table : PayTable
+  pub first : Option ℕ
+  pub second : Option ℕ
+
+-- the table keeps the rules, and the sums are those of the hits of both lines among all hands of the deck
+pub record AreTwoHits (asked : AskedTwo) (scales : List ℕ) (sums : Table) : Type 0 where
+  pub rules : IsTable asked.table
+  pub scaled : AreScales asked.table.deck scales
+  pub counted : AreSumsOf asked.table.deck (two_hits asked.table asked.first asked.second) sums
+
+-- the masks of the printed holds of the classes, by rising index, are the first of these words
+pub record AreMasks (table : PayTable) (coin : ℕ) (words : List ℕ) : Type 0 where
+  pub room : length (representatives table.deck) ≤ length words
+  pub masks : (i : ℕ) → i < length (representatives table.deck)
+      → slice_index words i ≡ least_best table coin (slice_index_or (representatives table.deck) i [])
+
+-- a bet, and the words that the masks are kept in
+pub record Printed : Type 0 where
+  pub table : PayTable
+  pub coin : ℕ
+  pub words : List ℕ
+
+-- the table has the bet, and with the masks stands the sum of the best values
+pub record IsPrinted (p : Printed) (worth : ℕ) : Type 0 where
+  pub bet : IsBet p.table p.coin
+  pub masks : AreMasks p.table p.coin p.words
+  pub sum : worth ≡ sum_of_best p.table p.coin
+
+-- the line asked for at a place: each line of the table, and behind them none
+unfoldable pub asked_at : PayTable → ℕ → Option ℕ
+asked_at table i = if nat_lt i (length table.lines.items) then Some i else None

@@ -1,0 +1,153 @@
+//! `hits`: how often each pay line comes under the printed holds.
+
+ghost use Rattle.std.specs.Prelude.{◌≡◌, ◌+◌, ◌<◌, ◌≤◌, ℕ, Some, None, length, slice_index};
+ghost use Rattle.vp_draws.specs.Draws.{sum_of_best};
+ghost use Rattle.vp_hits.specs.Hits.{often};
+ghost use Rattle.vp_io.specs.Puts.{Puts};
+ghost use Rattle.vp_pay.specs.Bets.{IsBet};
+ghost use Rattle.vp_pay.specs.Table.{IsTable};
+ghost use Rattle.vp_text.specs.Written.{line_of, written};
+ghost use Rattle.vp_run.specs.Hits.{end_lines, hit_lines, hit_words, hits_lines};
+
+use std::marker::Model;
+use vp_count::table_words;
+use vp_draws::return_denominator;
+use vp_hits::{LineCounts, line_counts};
+use vp_io::{Sink, WriteFault};
+use vp_lines::{Word, put_lines, put_words};
+use vp_pay::{PayLine, PayTable};
+use vp_region::Region;
+
+/// A bet on a pay table.
+#[derive(Drop)]
+pub struct HitsJob {
+    table: PayTable,
+    coin: u8,
+}
+
+impl Model for HitsJob {
+    ghost use Rattle.vp_pay.specs.Bets.{IsBet};
+    ghost use Rattle.vp_run.specs.Certify.{Staked};
+
+    ghost Value = { Staked };
+
+    ghost view = { λ j. record { table = j.table; coin = j.coin } };
+
+    ghost invariant = { λ j. IsBet j.table j.coin };
+}
+
+impl HitsJob {
+    ghost use Rattle.std.specs.Prelude.{◌≡◌, ◌*◌, ◌≤◌};
+    ghost use Rattle.vp_count.specs.Table.{first_word};
+    ghost use Rattle.vp_io.specs.Puts.{Puts};
+    ghost use Rattle.vp_pay.specs.Bets.{IsBet};
+    ghost use Rattle.vp_run.specs.Hits.{hits_lines};
+    ghost use Rattle.vp_text.specs.Written.{written};
+
+    pub(crate) fn new(table: PayTable, coin: u8) -> HitsJob
+        requires { IsBet table coin }
+        ensures { result ≡ record { table = table; coin = coin } }
+    {
+        HitsJob { table, coin }
+    }
+
+    /// How many words of 64 bits it needs: a table of sums, and one for the masks of the printed holds.
+    pub(crate) fn words(&self) -> usize
+        ensures { result ≡ 2 * first_word self.now.table.deck 6 }
+    {
+        2 * table_words(self.table.deck)
+    }
+
+    /// Puts the lines of the pay lines, of none, and of the return.
+    pub(crate) fn put<K: Sink>(&self, region: &mut Region, sink: &mut K) -> Result<(), WriteFault>
+        requires { 2 * first_word self.now.table.deck 6 ≤ region.old }
+        ensures puts { Puts (K.told sink.old) (K.told sink.new) result (written (hits_lines self.now)) }
+        ensures same { region.new ≡ region.old }
+    {
+        let many = table_words(self.table.deck);
+        let mut carver = region.carve();
+        let words = carver.take_as_it_is(many).unwrap();
+        let more = carver.take_as_it_is(many).unwrap();
+        let counts = line_counts(&self.table, self.coin, words, more);
+        put_counts(&self.table, self.coin, &counts, sink)
+    }
+}
+
+/// Puts how often the lines of the table come.
+fn put_counts<K: Sink>(
+    table: &PayTable,
+    coin: u8,
+    counts: &LineCounts,
+    sink: &mut K,
+) -> Result<(), WriteFault>
+    requires bet { IsBet table.now coin }
+    requires lines { (place : ℕ) → place < length table.now.lines.items
+        → slice_index counts.now.lines place ≡ often table.now coin (Some place) }
+    requires none { counts.now.none ≡ often table.now coin None }
+    requires value { counts.now.value ≡ sum_of_best table.now coin }
+    ensures { Puts (K.told sink.old) (K.told sink.new) result
+        (written (hits_lines (record { table = table.now; coin = coin }))) }
+{
+    let all = return_denominator(table.deck, 1);
+    let under = return_denominator(table.deck, coin);
+    put_hits(table, coin, &counts.lines, all, sink)?;
+    put_ends(counts.none, counts.value, all, under, sink)
+}
+
+/// Puts a line for each pay line.
+fn put_hits<K: Sink>(
+    table: &PayTable,
+    coin: u8,
+    many: &[u128; 34],
+    all: u64,
+    sink: &mut K,
+) -> Result<(), WriteFault>
+    requires bet { IsBet table.now coin }
+    ensures { Puts (K.told sink.old) (K.told sink.new) result
+        (written (hit_lines (slice_index many.now) coin all 0 table.now.lines.items)) }
+{
+    for place in 0..table.lines.len() {
+        put_hit(&table.lines[place], coin, many[place], all, sink)?;
+    }
+    Ok(())
+}
+
+/// Puts the line of a pay line.
+fn put_hit<K: Sink>(
+    line: &PayLine,
+    coin: u8,
+    many: u128,
+    all: u64,
+    sink: &mut K,
+) -> Result<(), WriteFault>
+    requires some { 1 ≤ coin }
+    requires most { coin ≤ 5 }
+    ensures { Puts (K.told sink.old) (K.told sink.new) result (line_of (hit_words line.now coin many all)) }
+{
+    let pay = line.pays[usize::from(coin - 1)];
+    let words = [
+        Word::Text(b"hit"),
+        Word::Text(line.name.text()),
+        Word::Number(pay as u128),
+        Word::Fraction(many, all as u128),
+    ];
+    put_words(&words, sink)
+}
+
+/// Puts how often no line comes, and the return.
+fn put_ends<K: Sink>(
+    none: u128,
+    value: u64,
+    all: u64,
+    under: u64,
+    sink: &mut K,
+) -> Result<(), WriteFault>
+    ensures { Puts (K.told sink.old) (K.told sink.new) result (written (end_lines none value all under)) }
+{
+    let none = [Word::Text(b"none"), Word::Fraction(none, all as u128)];
+    let value = [
+        Word::Text(b"return"),
+        Word::Fraction(value as u128, under as u128),
+    ];
+    put_lines(&[&none, &value], sink)
+}
