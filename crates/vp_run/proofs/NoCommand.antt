@@ -1,8 +1,8 @@
 -- Words that are no command have one answer, whatever the input; and a command has the answer of its own.
-use Rattle.std.proofs.Common.{◌≡◌, ℕ, zero, suc, List, true, false, ◌≢◌, refl, Option, Some, None, Result, Ok, Err, sym, ap}
+use Rattle.std.proofs.Common.{◌≡◌, ◌==◌, ℕ, Bool, if◌then◌else◌, List, true, false, ◌≢◌, refl, Option, Some, None, Result, Ok, Err, sym, ap}
 use Rattle.std.specs.Prelude.{is_some}
 use Rattle.vp_answer.specs.Answers.{answer_read}
-use Rattle.vp_answer.specs.declared.status.Status.TheVariants.{Usage}
+use Rattle.vp_answer.specs.declared.status.Status.TheVariants.{Done, Finding, Usage}
 use Rattle.vp_answer.specs.declared.stop.Stop.{Stop}
 use Rattle.vp_answer.specs.declared.stop.Stop.TheVariants.{Finding as Found, Record as RecordRefusal, Refused as Refusal}
 use Rattle.vp_run.specs.Answer.{answer, answer_to, is_command, job_answer, job_of, job_status, tables_answer, usage}
@@ -10,7 +10,7 @@ use Rattle.vp_run.specs.Commands.{command_of}
 use Rattle.vp_run.specs.declared.command.Command.{Command}
 use Rattle.vp_run.specs.declared.command.Command.TheVariants.{Over, Tables}
 use Rattle.vp_run.specs.declared.job.Job.{Job}
-use Rattle.vp_run.specs.declared.job.Job.TheVariants.{Sessions}
+use Rattle.vp_run.specs.declared.job.Job.TheVariants.{Audit, Certify, Checked, Compile, Cross, Deal, Hits, Meter, Multi, Play, Replay, Sessions}
 use Rattle.vp_run.specs.Sessions.{Mixed, by_record, sessions_answer, status_by, unlawful}
 use Rattle.vp_csv.specs.Rules.{refused_record}
 use Rattle.vp_csv.specs.Sessions.{sessions_of}
@@ -24,9 +24,12 @@ pub answer_usage : (words : List (List ℕ)) (bytes : List ℕ) → is_command w
 unfolding answer is_command
 answer_usage words bytes none = no_answer (command_of words) bytes none
 
+by_test : (b : Bool) → (if b then Done else Finding) ≢ Usage
+by_test true same = absurd (cc)
+by_test false same = absurd (cc)
+
 found_usage : (count : ℕ) → status_by count ≢ Usage
-found_usage zero same = absurd (cc)
-found_usage (suc count) same = absurd (cc)
+found_usage count = by_test (count == 0)
 
 record_usage : (m : Mixed) (o : Option ℕ) → (by_record m o).status ≢ Usage
 record_usage m (Some place) same = absurd (cc)
@@ -34,8 +37,18 @@ record_usage m None same = found_usage (unlawful m.table (sessions_of m.table.de
 
 job_usage : (job : Job) → job_status job ≢ Usage
 unfolding sessions_answer
+job_usage (Deal j) same = absurd (cc)
+job_usage (Certify j) same = absurd (cc)
+job_usage (Audit j) same = absurd (cc)
+job_usage (Cross j) same = absurd (cc)
+job_usage (Checked j) same = absurd (cc)
+job_usage (Replay j) same = absurd (cc)
 job_usage (Sessions m) same = record_usage m (refused_record m.table.deck m.csv) same
-job_usage job same = absurd (cc)
+job_usage (Meter j) same = absurd (cc)
+job_usage (Multi j) same = absurd (cc)
+job_usage (Hits j) same = absurd (cc)
+job_usage (Play j) same = absurd (cc)
+job_usage (Compile j) same = absurd (cc)
 
 read_usage : (read : Result Job Stop) → (answer_read job_answer read).status ≢ Usage
 read_usage (Ok job) same = job_usage job same

@@ -1,8 +1,9 @@
 -- What `sessions` answers to a pay table and a CSV text.
-use Rattle.std.proofs.Common.{◌≡◌, ◌<◌, ℕ, zero, suc, Bool, true, false, List, [], ◌∷◌, ◌++◌, refl, sym, ap, subst, ◌∙◌, arith, inl, inr, append-nil, append_assoc, Option, Some, None}
+use Rattle.std.proofs.Common.{◌≡◌, ◌<◌, ◌==◌, ℕ, if◌then◌else◌, Bool, true, false, List, [], ◌∷◌, ◌++◌, refl, sym, ap, subst, ◌∙◌, arith, inl, inr, append-nil, append_assoc, Option, Some, None}
 use Rattle.std.specs.Prelude.{◌↔◌, ◌⊎◌, ◌||◌, Ok, bytes_eq, codes, flat_map, is_some, map}
 use Rattle.std.specs.List.{AllByRecursion}
 use Rattle.std.proofs.lemmas.Grind.{flat_map-append}
+use Rattle.std.proofs.lemmas.Bool.Decides.{nat_tests}
 use Rattle.std.proofs.lemmas.Slice.Eq.{bytes_eq-Decides}
 use Rattle.vp_text.specs.Lines.{Word, feed_of}
 use Rattle.vp_text.specs.Sections.{Text, text_of}
@@ -25,6 +26,7 @@ use Rattle.vp_csv.proofs.Isolation.{apart}
 use Rattle.vp_replay.specs.Rules.{break_in}
 use Rattle.vp_replay.specs.declared.rule.Broken.{Broken}
 use Rattle.vp_answer.specs.Answers.{Answer, answer_read}
+use Rattle.vp_answer.specs.declared.status.Status.{Status}
 use Rattle.vp_answer.specs.declared.status.Status.TheVariants.{Done, Finding}
 use Rattle.vp_run.specs.Answer.{answer, job_answer, judged_log, read_as, sessions_job}
 use Rattle.vp_run.specs.Commands.{command_of}
@@ -95,13 +97,34 @@ sessions_as : (words : List Word) (bytes : List ℕ) (table : PayTable) (csv : L
     → sessions_answer (record { table = table; csv = csv }) ≡ answer words bytes
 sessions_as words bytes table csv is says = ap (λ r. answer_read job_answer (read_as sessions_job r)) (sym says) ∙ answer_as words (Some (Over Sessions)) bytes is
 
+abbrev as_status : Bool → Status
+as_status b = if b then Done else Finding
+
+finding_not : (b : Bool) → as_status b ≡ Finding → b ≡ false
+finding_not true e = absurd cc
+finding_not false e = refl
+
+done_so : (b : Bool) → as_status b ≡ Done → b ≡ true
+done_so true e = refl
+done_so false e = absurd cc
+
+not_zero : (count : ℕ) → 0 < count → (count == 0) ≡ false
+not_zero count low = grind (arith, nat_tests)
+
+some_of : (count : ℕ) → (count == 0) ≡ false → 0 < count
+some_of count e = grind (arith, nat_tests)
+
+zero_is : (count : ℕ) → count ≡ 0 → (count == 0) ≡ true
+zero_is count e = grind (arith, nat_tests)
+
+none_of : (count : ℕ) → (count == 0) ≡ true → count ≡ 0
+none_of count e = grind (arith, nat_tests)
+
 finding_counts : (count : ℕ) → status_by count ≡ Finding ↔ 0 < count
-finding_counts zero = (λ e. absurd cc, λ low. absurd (omega (arith, low)))
-finding_counts (suc count) = (λ e. omega arith, λ low. refl)
+finding_counts count = (λ e. some_of count (finding_not (count == 0) e), λ low. ap as_status (not_zero count low))
 
 done_counts : (count : ℕ) → status_by count ≡ Done ↔ (count ≡ 0)
-done_counts zero = (λ e. refl, λ e. refl)
-done_counts (suc count) = (λ e. absurd cc, λ e. absurd (omega (arith, e)))
+done_counts count = (λ e. none_of count (done_so (count == 0) e), λ e. ap as_status (zero_is count e))
 
 by_first : (table : PayTable) (csv : List ℕ) (due : Answer) (o : Option ℕ) → IsTable table → refused_record table.deck csv ≡ o → by_record (record { table = table; csv = csv }) o ≡ due
     → TellsSessions table csv due ⊎ NamesRecord table csv due
@@ -144,11 +167,11 @@ has_in_front text more lines h = record {
 
 stands_among : (text : Word → List ℕ) (name : Word) (names : List Word) → knows name names ≡ true → HasLines (flat_map text names) (text name)
 stands_among text name [] among = absurd cc
-stands_among text name (x ∷ xs) among = by_test (bytes_eq x name) refl
+stands_among text name (x ∷ xs) among = by_test (bytes_eq x name) refl (λ later. stands_among text name xs later)
   where
-    by_test : (b : Bool) → bytes_eq x name ≡ b → HasLines (text x ++ flat_map text xs) (text name)
-    by_test true is = record { front = []; behind = flat_map text xs; is = ap (λ (w : Word). text w ++ flat_map text xs) ((bytes_eq-Decides x name).0 is) }
-    by_test false other = has_more (text x) (flat_map text xs) (text name) (stands_among text name xs (ap (λ (b : Bool). b || knows name xs) (sym other) ∙ among))
+    by_test : (b : Bool) → bytes_eq x name ≡ b → (knows name xs ≡ true → HasLines (flat_map text xs) (text name)) → HasLines (text x ++ flat_map text xs) (text name)
+    by_test true is later = record { front = []; behind = flat_map text xs; is = ap (λ (w : Word). text w ++ flat_map text xs) ((bytes_eq-Decides x name).0 is) }
+    by_test false other later = has_more (text x) (flat_map text xs) (text name) (later (ap (λ (b : Bool). b || knows name xs) (sym other) ∙ among))
 
 mapped_text : (table : PayTable) (rs : List Record) (names : List Word)
     → flat_map (session_text table) (map (session_of table.deck rs) names) ≡ flat_map (λ name. session_text table (session_of table.deck rs name)) names

@@ -46,7 +46,7 @@ not_broken {A} {spell} {Valid} exact feed left value n valid s b =
   where
     within : (m : List WordLine) → s.front ≡ b.front ++ m → b.line ∷ b.rest ≡ m ++ left.lines → ⊥
     within [] is rest =
-        let front : text_of b.front ≡ spell value ++ [] = sym (text_of-append b.front []  ∙ append-nil (text_of b.front)) ∙ ap text_of (sym is) ∙ s.spelled ∙ sym (append-nil (spell value)) in
+        let front : text_of b.front ≡ spell value ++ [] = sym (text_of-append b.front [] ∙ append-nil (text_of b.front)) ∙ ap text_of (sym is) ∙ s.spelled ∙ sym (append-nil (spell value)) in
         goes_on exact b.wanted.value value [] b.wanted.next b.wanted.more b.wanted.valid valid (b.wanted.spelled ∙ ap (λ (t : Text). t ++ b.wanted.next ∷ b.wanted.more) front)
     within (l ∷ m) is rest =
         let at : b.line ≡ l = head_is b.line l b.rest (m ++ left.lines) rest in

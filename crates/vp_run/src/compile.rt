@@ -80,12 +80,7 @@ impl CompileJob {
 
     /// Writes the list that is made of the pool, behind the numbers that are said of it. It is made before anything is put:
     /// where there is no memory for the places of its exceptions, nothing is.
-    pub(crate) fn write<K: Sink>(
-        &self,
-        alloc: Global,
-        region: &mut Region,
-        sink: &mut K,
-    ) -> Status
+    pub(crate) fn write<K: Sink>(&self, alloc: Global, region: &mut Region, sink: &mut K) -> Status
         requires { compile_words self.now ≤ region.old }
         ensures served { Served (done (written (compile_lines self.now))) (K.told sink.old) (K.told sink.new) result }
         ensures same { region.new ≡ region.old }

@@ -73,12 +73,7 @@ impl PlayJob {
 
     /// Writes the seed, the number of games, and the numbers of the log. The log is made before anything is put: where there
     /// is no memory for it, nothing is.
-    pub(crate) fn write<K: Sink>(
-        &self,
-        alloc: Global,
-        region: &mut Region,
-        sink: &mut K,
-    ) -> Status
+    pub(crate) fn write<K: Sink>(&self, alloc: Global, region: &mut Region, sink: &mut K) -> Status
         requires { (self.now.table.coins + 1) * first_word self.now.table.deck 6 ≤ region.old }
         ensures served { Served (done (written (play_lines self.now))) (K.told sink.old) (K.told sink.new) result }
         ensures same { region.new ≡ region.old }

@@ -72,12 +72,7 @@ impl<'a> SessionsJob<'a> {
     /// Writes the lines of the sessions, or the line of the first record that breaks its rule. All records are read
     /// before anything is put: where there is no memory for the logs, nothing is.
     #[tactic(auto, unfolding(crate::specs::Sessions::sessions_answer))]
-    pub(crate) fn write<K: Sink>(
-        &self,
-        alloc: Global,
-        region: &mut Region,
-        sink: &mut K,
-    ) -> Status
+    pub(crate) fn write<K: Sink>(&self, alloc: Global, region: &mut Region, sink: &mut K) -> Status
         requires { self.now.table.coins * first_word self.now.table.deck 6 ≤ region.old }
         ensures served { Served (sessions_answer self.now) (K.told sink.old) (K.told sink.new) result }
         ensures same { region.new ≡ region.old }

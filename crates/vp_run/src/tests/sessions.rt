@@ -7,11 +7,14 @@ use vp_pay::samples::TWO_JOKERS;
 
 const HEAD: &[u8] = b"session,bet,deal,hold,draw,pay,credits\n";
 
-const A_LINES: &[u8] = b"session a\ngames 1\nbet 5\npaid 4000\ncredits 4095\nslips 0\nloss 0 / 7669695\nsession b\nfinding 1 funds 5 4\nsessions 2 1\n";
+const A_LINES: &[u8] =
+    b"session a\ngames 1\nbet 5\npaid 4000\ncredits 4095\nslips 0\nloss 0 / 7669695\nsession b\nfinding 1 funds 5 4\nsessions 2 1\n";
 
-const B_LINES: &[u8] = b"session b\nfinding 1 funds 5 4\nsession a\ngames 1\nbet 5\npaid 4000\ncredits 4095\nslips 0\nloss 0 / 7669695\nsessions 2 1\n";
+const B_LINES: &[u8] =
+    b"session b\nfinding 1 funds 5 4\nsession a\ngames 1\nbet 5\npaid 4000\ncredits 4095\nslips 0\nloss 0 / 7669695\nsessions 2 1\n";
 
-const C_LINES: &[u8] = b"session c\ngames 0\nbet 0\npaid 0\ncredits 7\nslips 0\nloss 0 / 7669695\nsessions 1 0\n";
+const C_LINES: &[u8] =
+    b"session c\ngames 0\nbet 0\npaid 0\ncredits 7\nslips 0\nloss 0 / 7669695\nsessions 1 0\n";
 
 /// The words of a table of sums for a deck of 52 cards.
 const ONE_TABLE: usize = 2_893_164;
@@ -113,10 +116,7 @@ fn texts_that_are_refused(rt: HostRuntime) -> Result<(), Fail> {
             b"session,bet,deal,hold,draw,pay,Credits\n",
             b"refused record 1\n",
         ),
-        (
-            b"session,bet,deal,hold,draw,pay\n",
-            b"refused record 1\n",
-        ),
+        (b"session,bet,deal,hold,draw,pay\n", b"refused record 1\n"),
         (
             b"session,bet,deal,hold,draw,pay,credits
 a,,,,,,100

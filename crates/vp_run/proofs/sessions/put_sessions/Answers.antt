@@ -23,7 +23,7 @@ loop-place-preserved g c = record {
 pub returns-in_err-put_count-clause-puts : goal.returns-in_err-put_count-clause-puts
 returns-in_err-put_count-clause-puts g c =
     put_halted [] (last_left c.args.games.now c.args.sessions.now.sessions c.loop-place.place c.count-count.result c.loop-place.unlawful (omega arith) c.count-count.ensures.value c.loop-place.invariant.unlawful)
-    c.in_err-put_count.was c.from_residual.ensures.0 c.put_count.ensures c.loop-place.invariant.put
+    c.in_err-put_count.was c.from_residual-in_err-put_count.ensures.0 c.put_count.ensures c.loop-place.invariant.put
 
 pub returns-clause-puts : goal.returns-clause-puts
 returns-clause-puts g c =
