@@ -15,7 +15,6 @@ pub mod OrderLosses
 pub mod OrderValues
 pub mod PlaceSums
 pub mod Shares
-pub mod Sizes
 pub mod SoFar
 pub mod Start
 pub mod SumsMore

@@ -1,17 +1,17 @@
 -- Exceptions of best holds lose least.
-use Rattle.std.proofs.Common.{◌≡◌, ℕ, zero, suc, ◌+◌, ◌-◌, ◌<◌, ◌≤◌, Bool, true, false, cond, List, [], ◌∷◌, map, length, refl, sym, ap, subst, ◌∙◌, arith, Some, None, Option}
+use Rattle.std.proofs.Common.{◌≡◌, ℕ, zero, suc, ◌<◌, ◌≤◌, Bool, true, false, cond, List, [], ◌∷◌, map, length, refl, sym, ap, ◌∙◌, arith, Some, None, Option}
 use Rattle.std.specs.Prelude.{◌==◌, find, option_map, sum_by}
 use Rattle.std.specs.List.{All}
 use Rattle.std.proofs.lemmas.Bool.{eqb-true}
 use Rattle.std.proofs.lemmas.List.Elements.{All-head, All-tail}
-use Rattle.vp_sets.specs.Sets.{choose, combos, deck}
+use Rattle.vp_sets.specs.Sets.{choose}
 use Rattle.vp_sets.specs.Index.{set_index}
 use Rattle.vp_suit.specs.Classes.{IsDeal, representative, representatives}
 use Rattle.vp_suit.proofs.Below.{below, below-zero, below-suc}
 use Rattle.vp_suit.proofs.ClassLaws.{representative_deal}
 use Rattle.vp_suit.proofs.Deals.{deal, deal_at, deal_is, sum_of_deals}
 use Rattle.vp_pay.specs.declared.table.PayTable.{PayTable}
-use Rattle.vp_draws.specs.Draws.{best, least_best, sum_of_best, value}
+use Rattle.vp_draws.specs.Draws.{best, least_best, value}
 use Rattle.vp_draws.proofs.Chosen.{least_best_value, value_le_best}
 use Rattle.vp_rule.specs.Lists.{Exception, RulePool}
 use Rattle.vp_rule.specs.declared.rule.Rule.{Rule}

@@ -19,7 +19,7 @@ use Rattle.vp_draws.proofs.Chosen.{value_le_best}
 use Rattle.vp_draws.proofs.TurnedValues.{best_by_classes, best_turned}
 use Rattle.vp_rule.specs.Lists.{RuleList}
 use Rattle.vp_suit.specs.Laws.{deals}
-use Rattle.vp_audit.specs.Audits.{audited, is_by, loss, lost, only, tally}
+use Rattle.vp_audit.specs.Audits.{audited, is_by, lost, only, tally}
 use Rattle.vp_audit.specs.Laws.{DealsAreSharedOut, LeastAndLossAreTheBest, LeastIsAtMostTheBest, LossIsSharedOut}
 use Rattle.vp_audit.specs.Sums.{worth}
 use Rattle.vp_audit.specs.Values.{decided, deciding, excepted, least_value, same}

@@ -1,12 +1,10 @@
 -- The holds of a hand, with their values.
-use Rattle.std.specs.Prelude.{◌≡◌, ℕ, Bool, true, false, ◌==◌, List, [], ◌∷◌, length, map, max, min, count_ones, Option, Some, None}
+use Rattle.std.specs.Prelude.{◌≡◌, ℕ, Bool, true, false, List, [], ◌∷◌, length, map, max, min}
 use Rattle.vp_pay.specs.declared.table.PayTable.{PayTable}
 use Rattle.vp_rank.specs.Bounded.{some_below}
 use Rattle.vp_draws.specs.Draws.{greatest, masks, value}
 use Rattle.vp_rule.specs.Holds.{matches}
 use Rattle.vp_rule.specs.declared.rule.Rule.{Rule}
-use Rattle.vp_rule.specs.declared.rule.Test.{Test}
-use Rattle.vp_rule.specs.declared.rule.Test.TheVariants.{Hold}
 use Rattle.vp_audit.specs.Values.{least, matched}
 
 -- a hand that is dealt for a bet on a table
@@ -40,16 +38,6 @@ greatest_matched h rule = greatest (value h.table h.coin h.hand) (matched h.tabl
 -- the rule matches some hold
 abbrev pub matches_some : PayTable → List ℕ → Rule → Bool
 matches_some table hand rule = some_below 32 (λ mask. matches table rule hand mask)
-
--- the number of cards that the first test asks for, where it asks for one
-abbrev pub asked_size : List Test → Option ℕ
-asked_size (Hold k ∷ tests) = Some k
-asked_size tests = None
-
--- the hold has so many cards, where a number is given
-abbrev pub has_size : Option ℕ → ℕ → Bool
-has_size None mask = true
-has_size (Some k) mask = count_ones mask == k
 
 -- the least and the greatest of some numbers, with one number more where it counts
 abbrev pub widened : ℕ × ℕ → Bool → ℕ → ℕ × ℕ

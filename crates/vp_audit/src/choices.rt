@@ -4,7 +4,7 @@ ghost use Rattle.std.specs.Prelude.{◌≡◌, ◌+◌, ◌<◌, ◌≤◌, IfSo
 ghost use Rattle.vp_suit.specs.Classes.{IsDeal};
 ghost use Rattle.vp_draws.specs.Draws.{best, value};
 ghost use Rattle.vp_rule.specs.Holds.{matches};
-ghost use Rattle.vp_audit.specs.Choices.{asked_size, greatest_matched, has_size, least_matched, matches_some, widened};
+ghost use Rattle.vp_audit.specs.Choices.{greatest_matched, least_matched, matches_some, widened};
 ghost use Rattle.vp_audit.specs.Compiled.{rule_cell};
 ghost use Rattle.vp_audit.specs.Sums.{priced};
 ghost use Rattle.vp_audit.specs.Values.{deciding};
@@ -14,7 +14,7 @@ use std::marker::Model;
 use std::sync::ledger::Ledger;
 use vp_card::Hand;
 use vp_hold::Game;
-use vp_rule::{Holds, Rule, Test};
+use vp_rule::{Holds, Rule};
 use vp_wild::Steps;
 
 /// The holds of a hand, with the values that they have for a bet; the place of each value is the mask.
@@ -116,24 +116,20 @@ impl<'a> Choices<'a> {
         ensures least { result.0 ≡ least_matched self.now rule.now }
         ensures greatest { result.1 ≡ greatest_matched self.now rule.now }
     {
-        let size = asked_size(rule);
         let mut extremes = (u64::MAX, 0);
-        for mask in 0..32u8 {
-            let counts = self.is_matched(rule, size, mask);
-            extremes = widened(extremes, counts, self.value(mask));
+        for mask in self.holds.asked(rule) {
+            let counts = self.is_matched(rule, *mask);
+            extremes = widened(extremes, counts, self.value(*mask));
         }
         extremes
     }
 
-    /// Whether the rule matches the hold `mask`. `size` is the number of cards that its first test asks for: it tells
-    /// most holds apart before any test is asked.
-    fn is_matched(&self, rule: &Rule, size: Option<u8>, mask: u8) -> bool
-        requires size { size ≡ asked_size rule.now.tests.items }
-        requires mask { mask < 32 }
+    /// Whether the rule matches the hold `mask`.
+    fn is_matched(&self, rule: &Rule, mask: u8) -> bool
+        requires { mask < 32 }
         ensures { result ≡ matches self.now.table rule.now self.now.hand mask }
     {
-        let holds = &self.holds;
-        has_size(size, mask) && holds.is_matched(rule, mask)
+        self.holds.is_matched(rule, mask)
     }
 
     /// Writes what each rule gives the hand.
@@ -179,26 +175,6 @@ fn first_matching(holds: &Holds, rules: &[Rule]) -> Option<usize>
     ensures inside { IfSome result (λ i. i < length rules.now) }
 {
     rules.iter().position(|rule| holds.some_is_matched(rule))
-}
-
-/// The number of cards that the first test of the rule asks for, where it asks for one.
-fn asked_size(rule: &Rule) -> Option<u8>
-    ensures { result ≡ asked_size rule.now.tests.items }
-{
-    match rule.tests.as_slice() {
-        [Test::Hold(size), ..] => Some(*size),
-        _ => None,
-    }
-}
-
-/// Whether the hold `mask` has so many cards, where a number is given.
-fn has_size(size: Option<u8>, mask: u8) -> bool
-    ensures { result ≡ has_size size mask }
-{
-    match size {
-        Some(size) => mask.count_ones() == u32::from(size),
-        None => true,
-    }
 }
 
 /// The least and the greatest of some values, with one value more where it counts.

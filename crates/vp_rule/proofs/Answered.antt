@@ -1,5 +1,5 @@
 -- What readers of sections answer, where they read exactly.
-use Rattle.std.proofs.Common.{◌≡◌, ℕ, Result, Ok, Err, ap, sym, ◌∙◌}
+use Rattle.std.proofs.Common.{◌≡◌, Result, Ok, Err, ap, sym, ◌∙◌}
 use Rattle.std.specs.Prelude.{IfOk, IfErr}
 use Rattle.vp_text.specs.ExactReaders.{Exact, Reader}
 use Rattle.vp_text.specs.Lines.{Feed}

@@ -1,5 +1,5 @@
 -- What is kept of a hold tells which tests hold of it.
-use Rattle.std.proofs.Common.{◌≡◌, ℕ, zero, suc, ◌+◌, ◌-◌, ◌*◌, ◌/◌, ◌%◌, ◌^◌, ◌<◌, ◌≤◌, Bool, true, false, cond, not, ◌==◌, ◌&&◌, List, [], ◌∷◌, length, refl, sym, ap, ◌∙◌, subst, inl, inr, arith, Option, get_or, replicate, slice_set}
+use Rattle.std.proofs.Common.{◌≡◌, ℕ, zero, suc, ◌+◌, ◌-◌, ◌*◌, ◌/◌, ◌%◌, ◌<◌, ◌≤◌, Bool, true, false, not, ◌==◌, ◌&&◌, List, [], ◌∷◌, length, refl, sym, ap, ◌∙◌, subst, inl, inr, arith, Option, get_or, replicate, slice_set}
 use Rattle.std.specs.Prelude.{nat_lt, nat_le, count_by}
 use Rattle.std.specs.List.{list_all, range_with_len}
 use Rattle.std.specs.Int.{bit_at}
@@ -12,8 +12,8 @@ use Rattle.vp_sets.specs.Draws.{discarded}
 use Rattle.vp_pay.specs.declared.table.PayTable.{PayTable}
 use Rattle.vp_rank.specs.Bounded.{some_below, all_below}
 use Rattle.vp_rank.specs.Counts.{ranked, suited, one_suit, fits_window}
-use Rattle.vp_rank.specs.Shapes.{IsShape, IsSuitMask, bit_of, count_of}
-use Rattle.vp_rank.specs.Wilds.{is_wild, wilds, naturals}
+use Rattle.vp_rank.specs.Shapes.{IsSuitMask, bit_of, count_of}
+use Rattle.vp_rank.specs.Wilds.{is_wild, naturals}
 use Rattle.vp_wild.specs.ByCounts.{at_most_one_suit}
 use Rattle.vp_wild.specs.Payment.{line}
 use Rattle.vp_wild.proofs.ByShape.{mask_one_suit, same_counts}

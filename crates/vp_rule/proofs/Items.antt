@@ -1,22 +1,18 @@
 -- Exceptions and rules of a list, one behind the other: each is read where it may follow, and they may stand exactly where they make a list.
-use Rattle.std.proofs.Common.{◌≡◌, ℕ, ◌+◌, ◌<◌, ◌≤◌, Bool, true, false, cond, ◌&&◌, List, [], ◌∷◌, ◌++◌, map, length, refl, sym, ap, ◌∙◌, arith, Some, None, Option, inl, inr, ◌⊎◌, append_assoc, length-append, nat_lt, ◌==◌, eqb-true}
+use Rattle.std.proofs.Common.{◌≡◌, ℕ, ◌+◌, ◌<◌, Bool, true, false, cond, List, [], ◌∷◌, ◌++◌, map, length, refl, ap, ◌∙◌, arith, Some, None, Option, inl, inr, length-append, ◌==◌, eqb-true}
 use Rattle.std.specs.Prelude.{option_map, codes}
-use Rattle.std.specs.List.{AllByRecursion}
-use Rattle.std.proofs.lemmas.Bool.{lt-ltb, ltb-true}
-use Rattle.vp_card.specs.Rising.{IsBelow, IsRising}
 use Rattle.vp_sets.specs.Index.{set_index}
 use Rattle.vp_text.specs.Lines.{Word}
 use Rattle.vp_text.specs.Reading.{next_is}
-use Rattle.vp_text.specs.Sections.{Text}
 use Rattle.vp_text.specs.ExactReaders.{Exact, ExactText, Keeps, closed_text, AreClosed}
-use Rattle.vp_text.specs.Streams.{always, following, has_room, MayFollow}
+use Rattle.vp_text.specs.Streams.{always, has_room, MayFollow}
 use Rattle.vp_text.proofs.Pieces.{both_true, no_value, so}
 use Rattle.vp_text.proofs.Rows.{Exact-closed}
 use Rattle.vp_text.proofs.Streams.{Exact-following}
 use Rattle.vp_pay.specs.Table.{IsTable}
 use Rattle.vp_pay.specs.declared.table.PayTable.{PayTable}
 use Rattle.vp_rule.specs.Lists.{Exception}
-use Rattle.vp_rule.specs.Reading.{Front, Item, exception_of, exceptions_of, front_of, front_with, is_above, item_behind, items_at, may_stand, next_exception_of, next_rule_of, nothing_yet, rule_of, rules_of}
+use Rattle.vp_rule.specs.Reading.{Front, Item, exception_of, exceptions_of, front_of, is_above, item_behind, items_at, may_stand, next_exception_of, next_rule_of, nothing_yet, rule_of, rules_of}
 use Rattle.vp_rule.specs.Spelling.{except_words, rule_words}
 use Rattle.vp_rule.specs.Valid.{IsException, IsRule}
 use Rattle.vp_rule.specs.declared.rule.Rule.{Rule}

@@ -1,7 +1,7 @@
 -- Lists and pools are read from their spellings, and from no other lines.
-use Rattle.std.proofs.Common.{◌≡◌, ℕ, zero, suc, ◌+◌, ◌<◌, ◌≤◌, Bool, true, false, cond, ◌&&◌, ◌==◌, nat_lt, nat_le, List, [], ◌∷◌, ◌++◌, map, length, refl, sym, ap, subst, ◌∙◌, arith, Some, None, Option, inl, inr, ◌⊎◌, append_assoc, length-append, eqb-true, eq-eqb}
+use Rattle.std.proofs.Common.{◌≡◌, ℕ, zero, suc, ◌+◌, ◌<◌, ◌≤◌, true, cond, ◌==◌, List, [], ◌∷◌, ◌++◌, length, refl, sym, ap, subst, ◌∙◌, arith, Some, None, Option, inl, inr, length-append}
 use Rattle.std.specs.Prelude.{codes, bytes_eq}
-use Rattle.std.specs.List.{All, AllByRecursion}
+use Rattle.std.specs.List.{AllByRecursion}
 use Rattle.std.proofs.lemmas.Bool.{lt-ltb, ltb-true, le-leb, leb-true}
 use Rattle.std.proofs.lemmas.List.Elements.{All-from_recursion}
 use Rattle.std.proofs.lemmas.Slice.Eq.{bytes_eq-Decides}
@@ -21,8 +21,8 @@ use Rattle.vp_pay.proofs.Tables.{of_all}
 use Rattle.vp_pay.specs.Table.{IsTable}
 use Rattle.vp_pay.specs.declared.table.PayTable.{PayTable}
 use Rattle.vp_rule.specs.Lists.{Exception, RuleList, RulePool}
-use Rattle.vp_rule.specs.Reading.{Front, Item, exceptions_of, front_of, front_with, is_above, items_at, list_at, list_from, may_stand, next_rule_of, nothing_yet, pool_at, pool_from, rules_at, rules_of, some_rules, version_behind, version_line, version_of}
-use Rattle.vp_rule.specs.Spelling.{except_words, rule_words, version_words, list_text, pool_text}
+use Rattle.vp_rule.specs.Reading.{Front, Item, exceptions_of, front_of, is_above, items_at, list_at, list_from, next_rule_of, nothing_yet, pool_at, pool_from, rules_at, rules_of, some_rules, version_behind, version_line, version_of}
+use Rattle.vp_rule.specs.Spelling.{rule_words, version_words, list_text, pool_text}
 use Rattle.vp_rule.specs.Valid.{IsVersion, IsTest, IsRule, IsException, IsList, IsPool}
 use Rattle.vp_rule.specs.declared.rule.Rule.{Rule}
 use Rattle.vp_rule.specs.declared.rule.Test.TheVariants.{Suited}

@@ -1,16 +1,13 @@
 -- The words of lists and pools are plain: none has a blank, a line feed, a carriage return or a `#`.
-use Rattle.std.proofs.Common.{◌≡◌, ℕ, zero, suc, ◌^◌, ◌/◌, ◌%◌, ◌≤◌, ◌<◌, Bool, true, false, cond, ◌==◌, List, [], ◌∷◌, ◌++◌, map, length, get_or, refl, ap, sym, ◌∙◌, arith, Some, None, Option, append_assoc, subst}
+use Rattle.std.proofs.Common.{ℕ, zero, suc, ◌≤◌, ◌<◌, Bool, true, false, cond, ◌==◌, List, [], ◌∷◌, ◌++◌, map, length, get_or, refl, sym, arith, append_assoc, subst}
 use Rattle.std.specs.Prelude.{codes, flat_map}
 use Rattle.std.specs.Fmt.{decimal}
 use Rattle.std.specs.List.{AllByRecursion}
-use Rattle.vp_card.specs.Cards.{held, is_rank_set}
-use Rattle.vp_card.specs.Texts.{any_text, card_text, rank_letters, rank_set_text}
-use Rattle.vp_card.specs.Reading.{rank_set_of}
-use Rattle.vp_card.proofs.RankSets.{rank_set_of-text}
+use Rattle.vp_card.specs.Texts.{card_text}
 use Rattle.vp_text.specs.Lines.{Word}
 use Rattle.vp_text.specs.Sections.{Text}
 use Rattle.vp_text.specs.Written.{IsPlainWord, IsPlainLine, IsPlainText}
-use Rattle.vp_text.proofs.PlainWords.{AreHigh, are_high, high_word, plain_key, plain_number, plain_words}
+use Rattle.vp_text.proofs.PlainWords.{plain_key, plain_number, plain_words}
 use Rattle.vp_pay.specs.Spelling.{pay_line_words, table_text}
 use Rattle.vp_pay.specs.Table.{IsTable}
 use Rattle.vp_pay.specs.declared.table.PayLine.{PayLine}

@@ -1,5 +1,5 @@
 -- The words of a rule, put together from those of its tests.
-use Rattle.std.proofs.Common.{◌≡◌, ℕ, ◌+◌, ◌*◌, ◌<◌, ◌≤◌, List, [], ◌∷◌, ◌++◌, map, length, take, get_or, refl, ap, sym, ◌∙◌, arith, add-one, subst, append_assoc, length-append}
+use Rattle.std.proofs.Common.{◌≡◌, ℕ, ◌+◌, ◌<◌, List, [], ◌∷◌, ◌++◌, length, take, get_or, refl, ap, sym, ◌∙◌, add-one, append_assoc}
 use Rattle.std.specs.Prelude.{flat_map, codes}
 use Rattle.std.specs.Fmt.{decimal, digits}
 use Rattle.std.proofs.lemmas.Fmt.{decimal_digit}
@@ -11,7 +11,7 @@ use Rattle.vp_lines.specs.Words.{HasStart, line_words, room_of, word_room, words
 use Rattle.vp_lines.specs.declared.words.Word.{Word}
 use Rattle.vp_lines.specs.declared.words.Word.TheVariants.{Nothing, Text, Number, Numbers, Fraction, Ranks, Cards, Hand}
 use Rattle.vp_pay.specs.declared.table.PayTable.{PayTable}
-use Rattle.vp_rule.specs.Spelling.{rule_words, test_words}
+use Rattle.vp_rule.specs.Spelling.{test_words}
 use Rattle.vp_rule.specs.declared.rule.Test.{Test}
 
 pub one_digit : (n : ℕ) → n < 10 → decimal n ≡ (48 + n) ∷ []

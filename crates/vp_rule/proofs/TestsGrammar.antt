@@ -1,6 +1,6 @@
 -- Tests: each is read from its words, and from no others.
-use Rattle.std.proofs.Common.{◌≡◌, ℕ, zero, suc, ◌+◌, ◌<◌, ◌≤◌, Bool, true, false, cond, ◌&&◌, ◌==◌, nat_lt, List, [], ◌∷◌, ◌++◌, map, length, get_or, refl, sym, ap, subst, ◌∙◌, arith, Some, None, Option, eqb, eqb-true}
-use Rattle.std.specs.Prelude.{option_map, bytes_eq, codes, position}
+use Rattle.std.proofs.Common.{◌≡◌, ℕ, zero, suc, ◌<◌, ◌≤◌, Bool, true, false, cond, ◌&&◌, ◌==◌, nat_lt, List, [], ◌∷◌, ◌++◌, map, length, get_or, refl, sym, ap, subst, ◌∙◌, arith, Some, None, Option, eqb, eqb-true}
+use Rattle.std.specs.Prelude.{option_map, bytes_eq, codes}
 use Rattle.std.specs.Fmt.{decimal}
 use Rattle.std.specs.Cmp.Lexicographic.{pointwise}
 use Rattle.std.specs.List.{AllByRecursion, IsDistinct, position_or_len}
@@ -9,15 +9,13 @@ use Rattle.std.proofs.lemmas.List.{get_or-map}
 use Rattle.std.proofs.lemmas.List.Quantifiers.{position-Some}
 use Rattle.std.proofs.lemmas.List.Sums.{position_or_len_is}
 use Rattle.std.proofs.lemmas.Slice.Eq.{bytes_eq-Decides}
-use Rattle.vp_card.specs.Cards.{is_rank_set}
 use Rattle.vp_card.specs.Texts.{rank_set_text}
-use Rattle.vp_card.specs.Reading.{rank_set_of}
 use Rattle.vp_text.specs.Lines.{Word}
 use Rattle.vp_text.specs.Numbers.{number_within}
 use Rattle.vp_text.specs.ExactReaders.{ExactText}
 use Rattle.vp_text.specs.Pieces.{ExactPiece, by_first}
 use Rattle.vp_text.proofs.Numbers.{number_within_exact}
-use Rattle.vp_text.proofs.Pieces.{both_true, bound, by_key, chosen, no_value, same_bytes, same_value, so, took, Exact-one_word}
+use Rattle.vp_text.proofs.Pieces.{both_true, bound, by_key, chosen, no_value, same_bytes, so, took, Exact-one_word}
 use Rattle.vp_pay.proofs.Values.{Exact-rank_set}
 use Rattle.vp_pay.specs.Table.{IsTable}
 use Rattle.vp_pay.specs.declared.pattern.Pattern.TheVariants.{Flush}

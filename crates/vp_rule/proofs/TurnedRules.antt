@@ -1,5 +1,5 @@
 -- Rules are kept by turns.
-use Rattle.std.proofs.Common.{◌≡◌, ℕ, ◌+◌, ◌<◌, Bool, true, false, not, eqb, ◌&&◌, nat_lt, List, [], ◌∷◌, map, length, refl, sym, ap, ◌∙◌, inl, inr, arith, Option}
+use Rattle.std.proofs.Common.{◌≡◌, ℕ, ◌+◌, ◌<◌, Bool, false, not, eqb, ◌&&◌, nat_lt, List, [], ◌∷◌, map, length, refl, sym, ap, ◌∙◌, inl, inr, arith, Option}
 use Rattle.std.proofs.Math.Path.{fun_ext}
 use Rattle.std.specs.Prelude.{◌==◌, nat_le}
 use Rattle.std.specs.List.{count_by, list_all, range_with_len}
@@ -8,7 +8,7 @@ use Rattle.vp_card.specs.Cards.{has, held, rank, suit}
 use Rattle.vp_sets.specs.Draws.{discarded}
 use Rattle.vp_suit.specs.Classes.{IsDeal}
 use Rattle.vp_suit.specs.Turns.{turned_suit, turned, turn, carried}
-use Rattle.vp_suit.proofs.Group.{inverse, suit_small}
+use Rattle.vp_suit.proofs.Group.{inverse}
 use Rattle.vp_suit.proofs.Cards.{turn-length}
 use Rattle.vp_suit.proofs.Deals.{deal_rises}
 use Rattle.vp_suit.proofs.Masks.{held_carried, discarded_carried}
@@ -16,7 +16,7 @@ use Rattle.vp_suit.proofs.Order.{turn_moves}
 use Rattle.vp_pay.specs.declared.table.PayTable.{PayTable}
 use Rattle.vp_rank.specs.Bounded.{some_below, all_below}
 use Rattle.vp_rank.specs.Counts.{ranked, suited, one_suit, fits_window}
-use Rattle.vp_rank.specs.Wilds.{is_wild, wilds, naturals}
+use Rattle.vp_rank.specs.Wilds.{is_wild, naturals}
 use Rattle.vp_rank.proofs.BoundedTests.{same_tests}
 use Rattle.vp_rank.proofs.CountLemmas.{tally, count_by-cons, naturals_yes, naturals_no}
 use Rattle.vp_wild.specs.Alike.{Alike, ExchangesSuits}
@@ -24,7 +24,7 @@ use Rattle.vp_wild.specs.Payment.{line}
 use Rattle.vp_wild.proofs.AlikeHands.{alike_order, same_naturals}
 use Rattle.vp_wild.proofs.TurnedHands.{alike_map}
 use Rattle.vp_wild.proofs.SuitTurns.{turn_exchanges, turned_line}
-use Rattle.vp_rule.specs.Holds.{between, of_set, windows, ranks, greatest_is, sharing, is_place, test_holds, holds, matches}
+use Rattle.vp_rule.specs.Holds.{between, of_set, windows, ranks, greatest_is, sharing, test_holds, holds, matches}
 use Rattle.vp_rule.specs.declared.rule.Rule.{Rule}
 use Rattle.vp_rule.specs.declared.rule.Test.{Test}
 use Rattle.vp_rule.specs.declared.rule.Test.TheVariants.{Hold, Wilds, Suited, Mixed, Royal, Windows, Count, Equal, Ranks, Made, Left, LeftSuit}

@@ -2,7 +2,7 @@
 use Rattle.std.specs.Prelude.{◌≡◌, ℕ, ◌<◌, length, Bool, not, nat_le, nat_lt, ◌==◌, ◌&&◌, List, count_by, Option, slice_index_or}
 use Rattle.std.specs.List.{range_with_len}
 use Rattle.std.specs.Int.{bit_at}
-use Rattle.vp_card.specs.Cards.{has, held, rank, suit}
+use Rattle.vp_card.specs.Cards.{IsHand, has, held, rank, suit}
 use Rattle.vp_sets.specs.Draws.{discarded}
 use Rattle.vp_pay.specs.declared.table.PayTable.{PayTable}
 use Rattle.vp_rank.specs.Bounded.{some_below, all_below}
@@ -59,5 +59,6 @@ pub record AreHeld (wild : Option ℕ) (hand : List ℕ) (n : ℕ) (all : List H
 
 -- a hand and its holds
 pub record AreHolds (table : PayTable) (hand : List ℕ) (d : Dealt) (all : List Held) : Type 0 where
+  pub cards : IsHand hand
   pub dealt : IsDealt table hand d
   pub held : AreHeld table.wild hand 32 all

@@ -1,5 +1,5 @@
 -- How a list is read when no exception is kept: a state stands for the items so far, and the exceptions are read again from the text.
-use Rattle.std.specs.Prelude.{ℕ, List, Option, Some, None, Result, ◌⊎◌, codes, if◌then◌else◌}
+use Rattle.std.specs.Prelude.{ℕ, List, Option, Some, None, ◌⊎◌, codes, if◌then◌else◌}
 use Rattle.std.proofs.Common.{inl, inr}
 use Rattle.vp_text.specs.Lines.{Word}
 use Rattle.vp_text.specs.ExactReaders.{Reader}

@@ -1,5 +1,5 @@
 -- Which tests, rules, exceptions, lists and pools keep the rules and limits of the list language (docs/FORMATS.md).
-use Rattle.std.specs.Prelude.{◌≡◌, ℕ, ◌<◌, ◌≤◌, true, List, length, map}
+use Rattle.std.specs.Prelude.{◌≡◌, ℕ, ◌<◌, ◌≤◌, true, length, map}
 use Rattle.std.specs.List.{All}
 use Rattle.vp_card.specs.Cards.{is_rank_set}
 use Rattle.vp_card.specs.Rising.{IsRising}

@@ -37,7 +37,8 @@ pub(crate) struct Held {
 impl Held {
     /// The hold `mask` of a hand.
     pub(crate) fn of(hand: &Hand, mask: u8, wild: Option<u8>) -> Held
-        ensures { IsHeld wild hand.now mask result }
+        ensures held { IsHeld wild hand.now mask result }
+        ensures hand { IsHand hand.now }
     {
         let cards = hand.held(mask);
         Held {
@@ -50,24 +51,6 @@ impl Held {
 
 /// Whether all tests of the rule hold of the hold.
 pub(crate) fn all_hold(dealt: &Dealt, held: &Held, rule: &Rule) -> bool
-    ensures { result ≡ list_all (λ test. test_by_counts dealt.now held.now test) rule.now.tests.items }
-{
-    may_hold(held, rule) && each_holds(dealt, held, rule)
-}
-
-/// False where the rule asks first for another number of held cards: most rules do, and most holds end here.
-#[tactic(auto, unfolding(crate::specs::ByCounts::test_by_counts))]
-fn may_hold(held: &Held, rule: &Rule) -> bool
-    ensures { (dealt : Dealt) → result ≡ false → list_all (λ test. test_by_counts dealt held.now test) rule.now.tests.items ≡ false }
-{
-    match rule.tests.as_slice() {
-        [Test::Hold(number), ..] => held.kept == *number,
-        _ => true,
-    }
-}
-
-/// Whether all tests of the rule hold of the hold, one after another.
-fn each_holds(dealt: &Dealt, held: &Held, rule: &Rule) -> bool
     ensures { result ≡ list_all (λ test. test_by_counts dealt.now held.now test) rule.now.tests.items }
 {
     rule.tests

@@ -13,7 +13,7 @@ use Rattle.vp_run.specs.Commands.{AreInRange, CommandsAreSpelled, InRange, alone
 use Rattle.vp_run.specs.declared.command.Command.{Command}
 use Rattle.vp_run.specs.declared.command.Command.TheVariants.{Over, Tables}
 use Rattle.vp_run.specs.declared.command.Task.{Task}
-use Rattle.vp_run.specs.declared.command.Task.TheVariants.{Certify, Check, Deal, Replay, Meter, Audit, Multi, Hits, Play, Compile}
+use Rattle.vp_run.specs.declared.command.Task.TheVariants.{Certify, Check, Cross, Deal, Replay, Meter, Audit, Multi, Play, Compile, Hits}
 
 -- the words spell the task, and its numbers are in range
 abbrev Spells : List Word → Task → Type 0
@@ -143,6 +143,7 @@ task_spelled word numbers read e =
     keyed (codes "deal") word numbers (bet Deal numbers) _ read e (a_bet (codes "deal") Deal (λ coin. refl) (λ coin is. is) numbers read) (λ e.
     keyed (codes "certify") word numbers (bet Certify numbers) _ read e (a_bet (codes "certify") Certify (λ coin. refl) (λ coin is. is) numbers read) (λ e.
     keyed (codes "audit") word numbers (bet Audit numbers) _ read e (a_bet (codes "audit") Audit (λ coin. refl) (λ coin is. is) numbers read) (λ e.
+    keyed (codes "cross") word numbers (bet Cross numbers) _ read e (a_bet (codes "cross") Cross (λ coin. refl) (λ coin is. is) numbers read) (λ e.
     keyed (codes "check") word numbers (check numbers) _ read e (a_check numbers read) (λ e.
     keyed (codes "meter") word numbers (meter numbers) _ read e (a_meter numbers read) (λ e.
     keyed (codes "multi") word numbers (multi numbers) _ read e (a_multi numbers read) (λ e.
@@ -155,6 +156,7 @@ unfolding command_of task_of coin_of
 task_read (Deal coin) is = ap (λ o. option_map Over (option_map Deal o)) ((number_within_exact 1 5 (omega arith)).again coin is)
 task_read (Certify coin) is = ap (λ o. option_map Over (option_map Certify o)) ((number_within_exact 1 5 (omega arith)).again coin is)
 task_read (Audit coin) is = ap (λ o. option_map Over (option_map Audit o)) ((number_within_exact 1 5 (omega arith)).again coin is)
+task_read (Cross coin) is = ap (λ o. option_map Over (option_map Cross o)) ((number_within_exact 1 5 (omega arith)).again coin is)
 task_read (Hits coin) is = ap (λ o. option_map Over (option_map Hits o)) ((number_within_exact 1 5 (omega arith)).again coin is)
 task_read (Check from count) is =
     let f = (number_within_exact 1 200000 (omega arith)).again from (is.some, is.most_from) in

@@ -1,4 +1,7 @@
 pub mod AuditLines
+pub mod CrossInputs
+pub mod CrossLines
+pub mod PrintedCrosses
 pub mod NoCommand
 pub mod PrintedLosses
 pub mod PrintedMoments

@@ -24,7 +24,7 @@ use Rattle.vp_run.specs.Hits.{hit_lines}
 use Rattle.vp_run.specs.declared.command.Command.{Command}
 use Rattle.vp_run.specs.declared.command.Command.TheVariants.{Over, Tables}
 use Rattle.vp_run.specs.declared.job.Job.{Job}
-use Rattle.vp_run.specs.declared.job.Job.TheVariants.{Certify, Checked, Deal, Replay, Meter, Audit, Multi, Hits, Play, Compile}
+use Rattle.vp_run.specs.declared.job.Job.TheVariants.{Certify, Checked, Cross, Deal, Replay, Meter, Audit, Multi, Play, Compile, Hits}
 
 front_some : (front back : List ℕ) → 0 < length front → 0 < length (front ++ back)
 front_some front back some = omega (arith, length-append front back)
@@ -38,6 +38,7 @@ unfolding certificate_text table_text checked_lines meter_text head_words said_l
 job_some (Deal d) = front_some (line_of (codes "deal" ∷ map card_text d.hand)) _ (omega (arith, length-append (spaced (codes "deal" ∷ map card_text d.hand)) (10 ∷ [])))
 job_some (Certify s) = omega arith
 job_some (Audit l) = omega arith
+job_some (Cross c) = omega arith
 job_some (Checked c) = omega arith
 job_some (Replay l) = behind_some (cost_lines l.table true 1 l.log.events) (summary_lines l.table.deck (summary_of l.table l.log)) (omega arith)
 job_some (Meter r) = omega arith

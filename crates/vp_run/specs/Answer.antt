@@ -24,14 +24,15 @@ use Rattle.vp_run.specs.Audit.{audit_input, audit_lines}
 use Rattle.vp_run.specs.Certify.{certify_input}
 use Rattle.vp_run.specs.Check.{checked_lines, rule_of}
 use Rattle.vp_run.specs.Commands.{command_of, reads}
+use Rattle.vp_run.specs.Cross.{cross_input, cross_lines}
 use Rattle.vp_run.specs.Deal.{deal_input, deal_lines}
 use Rattle.vp_run.specs.Replay.{replay_input, rule_of as law_of}
 use Rattle.vp_run.specs.declared.command.Command.{Command}
 use Rattle.vp_run.specs.declared.command.Command.TheVariants.{Over, Tables}
 use Rattle.vp_run.specs.declared.command.Task.{Task}
-use Rattle.vp_run.specs.declared.command.Task.TheVariants.{Certify, Check, Deal, Replay, Meter, Audit, Multi, Hits, Play, Compile}
+use Rattle.vp_run.specs.declared.command.Task.TheVariants.{Certify, Check, Cross, Deal, Replay, Meter, Audit, Multi, Play, Compile, Hits}
 use Rattle.vp_run.specs.declared.job.Job.{Job}
-use Rattle.vp_run.specs.declared.job.Job.TheVariants.{Certify as CertifyJob, Checked as CheckedJob, Deal as DealJob, Replay as ReplayJob, Meter as MeterJob, Audit as AuditJob, Multi as MultiJob, Hits as HitsJob, Play as PlayJob, Compile as CompileJob}
+use Rattle.vp_run.specs.declared.job.Job.TheVariants.{Certify as CertifyJob, Checked as CheckedJob, Cross as CrossJob, Deal as DealJob, Replay as ReplayJob, Meter as MeterJob, Audit as AuditJob, Multi as MultiJob, Play as PlayJob, Compile as CompileJob, Hits as HitsJob}
 use Rattle.vp_run.specs.Meter.{meter_input, metering_of}
 use Rattle.vp_meter.specs.Spelling.{meter_text}
 use Rattle.vp_run.specs.Multi.{multi_input, multi_lines}
@@ -57,6 +58,9 @@ meter_job coin name lo hi read = MeterJob (record { metering = metering_of coin 
 
 abbrev pub audit_job : ℕ → PayTable × RuleList → Job
 audit_job coin read = AuditJob (record { table = read.0; coin = coin; list = read.1 })
+
+abbrev pub cross_job : ℕ → PayTable × PayTable → Job
+cross_job coin read = CrossJob (record { played = read.0; priced = read.1; coin = coin })
 
 abbrev pub multi_job : ℕ → ℕ → PayTable × Unit {0} → Job
 multi_job coin hands read = MultiJob (record { table = read.0; coin = coin; hands = hands })
@@ -94,6 +98,7 @@ abbrev pub job_of : Task → List ℕ → Result Job Stop
 job_of (Deal coin) bytes = read_as (deal_job coin) (deal_input coin bytes)
 job_of (Certify coin) bytes = read_as (certify_job coin) (certify_input coin bytes)
 job_of (Audit coin) bytes = read_as (audit_job coin) (audit_input coin bytes)
+job_of (Cross coin) bytes = read_as (cross_job coin) (cross_input coin bytes)
 job_of (Check from count) bytes = check_read (check_result bytes from count)
 job_of Replay bytes = log_read (replay_input bytes)
 job_of (Meter coin name lo hi) bytes = read_as (meter_job coin name lo hi) (meter_input coin name bytes)
@@ -110,6 +115,8 @@ job_text (DealJob d) = written (deal_lines d)
 job_text (CertifyJob s) = written (certificate_text (due_certificate s.table s.coin))
 -- of `audit`: what the list loses
 job_text (AuditJob l) = written (audit_lines l)
+-- of `cross`: what one table's play costs on another
+job_text (CrossJob c) = written (cross_lines c)
 -- of `check`: what the certificate says of itself
 job_text (CheckedJob checked) = written (checked_lines checked)
 -- of `replay`: the costs of its games, and the numbers of the log

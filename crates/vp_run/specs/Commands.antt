@@ -8,7 +8,7 @@ use Rattle.vp_pay.specs.Names.{is_name}
 use Rattle.vp_run.specs.declared.command.Command.{Command}
 use Rattle.vp_run.specs.declared.command.Command.TheVariants.{Over, Tables}
 use Rattle.vp_run.specs.declared.command.Task.{Task}
-use Rattle.vp_run.specs.declared.command.Task.TheVariants.{Certify, Check, Deal, Replay, Meter, Audit, Multi, Hits, Play, Compile}
+use Rattle.vp_run.specs.declared.command.Task.TheVariants.{Certify, Check, Cross, Deal, Replay, Meter, Audit, Multi, Play, Compile, Hits}
 
 -- ---- how a command is spelled
 
@@ -17,6 +17,7 @@ abbrev pub task_words : Task → List Word
 task_words (Deal coin) = codes "deal" ∷ decimal coin ∷ []
 task_words (Certify coin) = codes "certify" ∷ decimal coin ∷ []
 task_words (Audit coin) = codes "audit" ∷ decimal coin ∷ []
+task_words (Cross coin) = codes "cross" ∷ decimal coin ∷ []
 task_words (Check from count) = codes "check" ∷ decimal from ∷ decimal count ∷ []
 task_words Replay = codes "replay" ∷ []
 task_words (Meter coin line lo hi) = codes "meter" ∷ decimal coin ∷ line ∷ decimal lo ∷ decimal hi ∷ []
@@ -70,6 +71,7 @@ abbrev pub InRange : Task → Type 0
 InRange (Deal coin) = (1 ≤ coin) × (coin ≤ 5)
 InRange (Certify coin) = (1 ≤ coin) × (coin ≤ 5)
 InRange (Audit coin) = (1 ≤ coin) × (coin ≤ 5)
+InRange (Cross coin) = (1 ≤ coin) × (coin ≤ 5)
 InRange (Check from count) = IsRange from count
 InRange Replay = Unit {0}
 InRange (Meter coin line lo hi) = IsMeter coin line lo hi
@@ -158,6 +160,7 @@ task_of word numbers =
     if bytes_eq word (codes "deal") then bet Deal numbers
     else (if bytes_eq word (codes "certify") then bet Certify numbers
     else (if bytes_eq word (codes "audit") then bet Audit numbers
+    else (if bytes_eq word (codes "cross") then bet Cross numbers
     else (if bytes_eq word (codes "check") then check numbers
     else (if bytes_eq word (codes "meter") then meter numbers
     else (if bytes_eq word (codes "multi") then multi numbers

@@ -10,6 +10,8 @@ pub mod Replay
 pub mod Meter
 pub mod Answer
 pub mod Audit
+pub mod Cross
+pub mod Crossed
 pub mod Memory
 pub mod Arguments
 pub mod EveryDeal

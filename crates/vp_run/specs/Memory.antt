@@ -9,15 +9,16 @@ use Rattle.vp_run.specs.Compile.{compile_words}
 use Rattle.vp_run.specs.declared.command.Command.{Command}
 use Rattle.vp_run.specs.declared.command.Command.TheVariants.{Over, Tables}
 use Rattle.vp_run.specs.declared.job.Job.{Job}
-use Rattle.vp_run.specs.declared.job.Job.TheVariants.{Certify, Checked, Deal, Replay, Meter, Audit, Multi, Hits, Play, Compile}
+use Rattle.vp_run.specs.declared.job.Job.TheVariants.{Certify, Checked, Cross, Deal, Replay, Meter, Audit, Multi, Play, Compile, Hits}
 
--- `deal`, `certify` and `audit` need a table of sums for the deck of their pay table, `multi` and `hits` two, and `replay` one for each bet; `check`
+-- `deal`, `certify` and `audit` need a table of sums for the deck of their pay table, `multi`, `hits` and `cross` two, and `replay` one for each bet; `check`
 -- walks the draws in place; `meter` needs two such tables, and four words for each payment; `play` needs one for each bet, and one more;
 -- `compile` needs one, and words for its matrix
 abbrev pub job_words : Job → ℕ
 job_words (Deal d) = first_word d.table.deck 6
 job_words (Certify s) = first_word s.table.deck 6
 job_words (Audit l) = first_word l.table.deck 6
+job_words (Cross c) = 2 * first_word c.played.deck 6
 job_words (Checked c) = 0
 job_words (Replay l) = l.table.coins * first_word l.table.deck 6
 job_words (Meter r) = 2 * first_word r.metering.table.deck 6 + 4 * (r.hi - r.lo + 1)

@@ -17,6 +17,8 @@ pub enum Task {
     Certify(u8),
     /// `audit COIN`: what a strategy list loses, for a bet of 1 to 5 coins.
     Audit(u8),
+    /// `cross COIN`: what one pay table's best play costs on another, for a bet of 1 to 5 coins.
+    Cross(u8),
     /// `check FROM COUNT`: what is wrong with a certificate. The values of COUNT class lines from the place FROM on,
     /// counted from 1, are reckoned again by walking all draws.
     Check {
@@ -100,6 +102,7 @@ fn task_of(word: &str, numbers: &[&str]) -> Option<Task>
         "deal" => bet(numbers).map(Task::Deal),
         "certify" => bet(numbers).map(Task::Certify),
         "audit" => bet(numbers).map(Task::Audit),
+        "cross" => bet(numbers).map(Task::Cross),
         "check" => lines(numbers),
         "meter" => meter(numbers),
         "multi" => hands(numbers),

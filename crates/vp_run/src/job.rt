@@ -3,9 +3,10 @@
 ghost use Rattle.std.specs.Prelude.{◌≡◌, ◌≤◌, length};
 ghost use Rattle.vp_loggram.specs.Logs.{IsLog};
 ghost use Rattle.vp_pay.specs.Table.{IsTable};
-ghost use Rattle.vp_run.specs.Answer.{certify_job, check_read, deal_job, job_of, log_read, read_as, replay_read, meter_job, audit_job, multi_job, hits_job, play_job, compile_job};
+ghost use Rattle.vp_run.specs.Answer.{certify_job, check_read, deal_job, job_of, log_read, read_as, replay_read, meter_job, audit_job, cross_job, multi_job, play_job, compile_job, hits_job};
 ghost use Rattle.vp_run.specs.Audit.{audit_input};
 ghost use Rattle.vp_run.specs.Certify.{certify_input};
+ghost use Rattle.vp_run.specs.Cross.{cross_input};
 ghost use Rattle.vp_run.specs.Commands.{InRange};
 ghost use Rattle.vp_run.specs.Deal.{deal_input};
 ghost use Rattle.vp_run.specs.Replay.{replay_input};
@@ -20,6 +21,7 @@ use crate::certify::{CertifyJob, read_certify_input};
 use crate::check::{put_checked, rule_of};
 use crate::command::Task;
 use crate::compile::{CompileJob, read_compile_input};
+use crate::cross::{CrossJob, read_cross_input};
 use crate::deal::{DealJob, read_deal_input};
 use crate::hits::HitsJob;
 use crate::meter::{MeterJob, read_meter_input};
@@ -40,6 +42,7 @@ pub enum Job<'a> {
     Deal(DealJob),
     Certify(CertifyJob),
     Audit(AuditJob<'a>),
+    Cross(CrossJob),
     Checked(Checked),
     Replay(ReplayJob<'a>),
     Meter(MeterJob),
@@ -64,6 +67,7 @@ impl<'a> Work for Job<'a> {
             Job::Deal(job) => job.words(),
             Job::Certify(job) => job.words(),
             Job::Audit(job) => job.words(),
+            Job::Cross(job) => job.words(),
             Job::Checked(_) => 0,
             Job::Replay(job) => job.words(),
             Job::Meter(job) => job.words(),
@@ -79,6 +83,7 @@ impl<'a> Work for Job<'a> {
             Job::Deal(job) => job.put(region, sink),
             Job::Certify(job) => job.put(region, sink),
             Job::Audit(job) => job.put(region, sink),
+            Job::Cross(job) => job.put(region, sink),
             Job::Checked(checked) => put_checked(*checked, sink),
             Job::Replay(job) => job.put(region, sink),
             Job::Meter(job) => job.put(region, sink),
@@ -115,6 +120,7 @@ pub(crate) fn job_of(task: Task, bytes: &[u8]) -> Result<Job<'_>, Stop>
         Task::Deal(coin) => deal_job(coin, bytes),
         Task::Certify(coin) => certify_job(coin, bytes),
         Task::Audit(coin) => audit_job(coin, bytes),
+        Task::Cross(coin) => cross_job(coin, bytes),
         Task::Check { from, count } => check_job(check(bytes, from, count)),
         Task::Replay => replay_job(bytes),
         Task::Meter { coin, line, lo, hi } => meter_job(coin, &line, lo, hi, bytes),
@@ -216,6 +222,17 @@ fn audit_job(coin: u8, bytes: &[u8]) -> Result<Job<'_>, Stop>
 {
     match read_audit_input(bytes, coin) {
         Ok((table, list)) => Ok(Job::Audit(AuditJob::new(table, coin, list))),
+        Err(refused) => Err(Stop::Refused { line: refused.line }),
+    }
+}
+
+fn cross_job(coin: u8, bytes: &[u8]) -> Result<Job<'_>, Stop>
+    requires some { 1 ≤ coin }
+    requires limit { length bytes.now ≤ 67108864 }
+    ensures { result ≡ read_as (cross_job coin) (cross_input coin bytes.now) }
+{
+    match read_cross_input(bytes, coin) {
+        Ok((played, priced)) => Ok(Job::Cross(CrossJob::new(played, priced, coin))),
         Err(refused) => Err(Stop::Refused { line: refused.line }),
     }
 }

@@ -4,6 +4,8 @@ ghost use Rattle.vp_run.specs.Audit.{AuditInputsAreRead};
 ghost use Rattle.vp_run.specs.Certify.{CertifyInputsAreRead};
 ghost use Rattle.vp_run.specs.Check.{CertificatesAreJudged, CheckInputsAreEither, CheckInputsAreRefused};
 ghost use Rattle.vp_run.specs.Commands.{CommandsAreSpelled};
+ghost use Rattle.vp_run.specs.Cross.{CrossInputsAreRead};
+ghost use Rattle.vp_run.specs.Crossed.{CrossesPricePlay};
 ghost use Rattle.vp_run.specs.Deal.{DealInputsAreRead};
 ghost use Rattle.vp_run.specs.Replay.{ReplayInputsAreRead};
 ghost use Rattle.vp_run.specs.Replayed.{ReplaysTellCosts};
@@ -46,6 +48,21 @@ pub fn certify_inputs_are_read()
 /// strategy list for it, and nothing else. Every other input is refused, exactly at its refused line.
 pub fn audit_inputs_are_read()
     ensures { AuditInputsAreRead }
+{}
+
+/// What `cross` takes for its input is what the lines of the input spell: a valid pay table that has the bet, then a second
+/// one that has it, too, and the same deck, and nothing else. Every other input is refused, exactly at its refused line.
+pub fn cross_inputs_are_read()
+    ensures { CrossInputsAreRead }
+{}
+
+/// The answer of `cross` to each two pay tables that it takes prints what the best play of the first is worth on the second:
+/// each deal has a hold that the first table prints, one that some turn of the suits carries to the least best mask of its
+/// class, and all such holds have one value on the second table, the mean of its payments there; the printed sums are
+/// those of the best values, of these values and of their differences, over all deals. The printed class costs most, and
+/// there is none exactly where nothing is lost.
+pub fn crosses_price_play()
+    ensures { CrossesPricePlay }
 {}
 
 /// What `multi` takes for its input is what the lines of the input spell: a valid pay table that has the bet, and nothing

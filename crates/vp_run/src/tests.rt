@@ -4,6 +4,7 @@ mod audit;
 mod certify;
 mod check;
 mod compile;
+mod cross;
 mod deal;
 mod faults;
 mod hits;

@@ -56,7 +56,11 @@ fn every_write_fails_once(rt: HostRuntime) -> Result<(), Fail> {
 fn faults_of_each_command(rt: HostRuntime) -> Result<(), Fail> {
     let cases: [(&[&str], &[u8], &[u8]); 7] = [
         (&["audit", "1"], ONE_JOKER, b"list\nrule hold 1\nend\n"),
-        (&["compile", "1", "0"], ONE_JOKER, b"pool\nrule hold 1\nend\n"),
+        (
+            &["compile", "1", "0"],
+            ONE_JOKER,
+            b"pool\nrule hold 1\nend\n",
+        ),
         (&["replay"], ONE_JOKER, b"log 7\nend\n"),
         (&["meter", "1", "joker", "0", "1"], ONE_JOKER, b""),
         (&["multi", "1", "2"], ONE_JOKER, b""),

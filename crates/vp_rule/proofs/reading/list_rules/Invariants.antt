@@ -1,4 +1,4 @@
-use Rattle.std.proofs.Common.{◌≡◌, [], length, None}
+use Rattle.std.proofs.Common.{◌≡◌, length}
 use Rattle.vp_text.specs.Sections.{Leaves}
 use Rattle.vp_text.specs.Streams.{folded_at}
 use Rattle.vp_rule.specs.Kept.{step_behind}

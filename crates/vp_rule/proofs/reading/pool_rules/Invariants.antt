@@ -1,5 +1,5 @@
 use Rattle.std.proofs.Common.{◌≡◌, [], length}
-use Rattle.vp_text.specs.Reading.{rows_at, closed_by}
+use Rattle.vp_text.specs.Reading.{rows_at}
 use Rattle.vp_text.specs.Sections.{Leaves}
 use Rattle.vp_rule.proofs.Rows.{pool_row}
 use Rattle.vp_rule.proofs.reading.pool_rules.Given as goal

@@ -1,5 +1,3 @@
-use Rattle.std.proofs.Common.{subst, sym}
-use Rattle.vp_text.proofs.Standing.{stands_refused}
 use Rattle.vp_rule.proofs.Answered.{found, only, refused}
 use Rattle.vp_rule.proofs.Kept.{as_read}
 use Rattle.vp_rule.proofs.ListsGrammar.{Exact-list}

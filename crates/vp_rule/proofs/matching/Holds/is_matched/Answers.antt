@@ -1,4 +1,4 @@
-use Rattle.std.proofs.Common.{ap, ◌∙◌, arith}
+use Rattle.std.proofs.Common.{ap, ◌∙◌}
 use Rattle.vp_rule.specs.Holds.{matches}
 use Rattle.vp_rule.specs.Matching.{HandAtTable}
 use Rattle.vp_rule.proofs.HeldRight.{matches_at}

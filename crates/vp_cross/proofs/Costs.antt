@@ -1,0 +1,76 @@
+-- Crossed values and costs of deals.
+use Rattle.std.proofs.Common.{◌≡◌, ℕ, true, ◌+◌, ◌-◌, ◌<◌, ◌≤◌, List, ap, sym, ◌∙◌, arith, refl}
+use Rattle.vp_pay.specs.declared.table.PayTable.{PayTable}
+use Rattle.vp_pay.specs.Table.{IsTable}
+use Rattle.vp_suit.specs.Turns.{carried, turn}
+use Rattle.vp_suit.specs.Classes.{IsDeal, IsKept, is_representative, least_turn, representative}
+use Rattle.vp_suit.proofs.Deals.{deal_rises}
+use Rattle.vp_suit.proofs.Representatives.{represented}
+use Rattle.vp_suit.proofs.ClassLaws.{representative_kept, representative_own}
+use Rattle.vp_draws.specs.Draws.{best, least_best, value}
+use Rattle.vp_draws.proofs.Chosen.{least_best_small, least_best_value, value_le_best}
+use Rattle.vp_draws.proofs.TurnedValues.{value_turned, best_turned, carried_from}
+use Rattle.vp_cross.specs.Crossings.{crossed_value, cost}
+use Rattle.vp_cross.specs.Laws.{IsPrintedHold}
+
+-- ---- turns keep both
+
+pub crossed_kept : (played priced : PayTable) (coin : ℕ) → 52 ≤ priced.deck → IsKept priced.deck (crossed_value played priced coin)
+unfolding crossed_value
+crossed_kept played priced coin big t cards l d =
+    ap (λ (r : List ℕ). value priced coin r (least_best played coin r)) (representative_kept priced.deck cards t big d l)
+
+pub cost_kept : (played priced : PayTable) (coin : ℕ) → 52 ≤ priced.deck → IsKept priced.deck (cost played priced coin)
+unfolding cost
+cost_kept played priced coin big t cards l d =
+    ap (λ b. b - crossed_value played priced coin (turn t cards)) (best_turned t coin priced cards big l d)
+    ∙ ap (λ v. best priced coin cards - v) (crossed_kept played priced coin big t cards l d)
+
+-- at a representative
+pub own_crossed : (played priced : PayTable) (coin : ℕ) (cards : List ℕ) → 52 ≤ priced.deck → IsDeal priced.deck cards → is_representative cards ≡ true
+    → value priced coin cards (least_best played coin cards) ≡ crossed_value played priced coin cards
+unfolding crossed_value
+own_crossed played priced coin cards big d stands =
+    ap (λ (r : List ℕ). value priced coin r (least_best played coin r)) (sym (representative_own priced.deck cards big d stands))
+
+-- ---- a deal and the representative of its class
+
+by_least_turn : (cards : List ℕ) → turn (least_turn cards) cards ≡ representative cards
+unfolding representative
+by_least_turn cards = refl
+
+turns_to : (n : ℕ) (cards : List ℕ) → IsDeal n cards → least_turn cards < 24
+turns_to n cards d = (represented cards (deal_rises n cards d)).inside
+
+best_of_class : (priced : PayTable) (coin : ℕ) (cards : List ℕ) → 52 ≤ priced.deck → IsDeal priced.deck cards → best priced coin (representative cards) ≡ best priced coin cards
+best_of_class priced coin cards big d =
+    ap (best priced coin) (sym (by_least_turn cards)) ∙ best_turned (least_turn cards) coin priced cards big (turns_to priced.deck cards d) d
+
+pub crossed_le : (played priced : PayTable) (coin : ℕ) (cards : List ℕ) → 52 ≤ priced.deck → IsDeal priced.deck cards → crossed_value played priced coin cards ≤ best priced coin cards
+unfolding crossed_value
+crossed_le played priced coin cards big d =
+    omega (arith, value_le_best priced coin (representative cards) (least_best played coin (representative cards)) (least_best_small played coin (representative cards)), best_of_class priced coin cards big d)
+
+pub make_up : (played priced : PayTable) (coin : ℕ) (cards : List ℕ) → 52 ≤ priced.deck → IsDeal priced.deck cards
+    → crossed_value played priced coin cards + cost played priced coin cards ≡ best priced coin cards
+unfolding cost
+make_up played priced coin cards big d = omega (arith, crossed_le played priced coin cards big d)
+
+-- a table's own play
+pub own_play : (table : PayTable) (coin : ℕ) (cards : List ℕ) → 52 ≤ table.deck → IsDeal table.deck cards → crossed_value table table coin cards ≡ best table coin cards
+unfolding crossed_value
+own_play table coin cards big d = least_best_value table coin (representative cards) ∙ best_of_class table coin cards big d
+
+-- ---- printed holds
+
+pub has_printed_hold : (played priced : PayTable) (coin : ℕ) (cards : List ℕ) → IsTable priced → IsDeal priced.deck cards → (mask : ℕ) × (mask < 32) × IsPrintedHold played coin cards mask
+has_printed_hold played priced coin cards t d =
+    let from = carried_from priced.deck (least_turn cards) (least_best played coin (representative cards)) cards (turns_to priced.deck cards d) d (least_best_small played coin (representative cards)) in
+    (from.0, from.1, record { turning = least_turn cards; within = turns_to priced.deck cards d; deal = by_least_turn cards; hold = from.2 })
+
+pub printed_value : (played priced : PayTable) (coin mask : ℕ) (cards : List ℕ) → IsTable priced → IsDeal priced.deck cards → IsPrintedHold played coin cards mask → value priced coin cards mask ≡ crossed_value played priced coin cards
+unfolding crossed_value
+printed_value played priced coin mask cards t d p =
+    sym (value_turned p.turning mask coin priced cards t.known_deck.0 p.within d)
+    ∙ ap (λ (x : List ℕ). value priced coin x (carried p.turning cards mask)) p.deal
+    ∙ ap (value priced coin (representative cards)) p.hold

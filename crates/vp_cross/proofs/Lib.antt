@@ -1,0 +1,5 @@
+pub mod Costliest
+pub mod Costs
+pub mod Totals
+pub mod ByClasses
+pub mod CostLaws

@@ -1,0 +1,15 @@
+pub mod Breaks
+pub mod Closing
+pub mod Counts
+pub mod Field_cards
+pub mod Fuel
+pub mod Isolation
+pub mod Names
+pub mod OneMore
+pub mod Places
+pub mod RecordLaws
+pub mod RowRules
+pub mod Rows
+pub mod Sizes
+pub mod SoFar
+pub mod Stepping

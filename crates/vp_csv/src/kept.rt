@@ -1,0 +1,100 @@
+//! Sessions, while their records are read.
+
+ghost use Rattle.std.specs.Prelude.{◌≡◌, ◌<◌, ◌++◌, ◌∷◌, [], length, map, bytes_eq, codes, OnOk, IfOk};
+ghost use Rattle.std.specs.List.{position};
+ghost use Rattle.vp_text.specs.Written.{line_of};
+ghost use Rattle.vp_loggram.specs.Spelling.{event_words};
+ghost use Rattle.vp_csv.specs.Kept.{closed, has_name, start_line, with_text, with_text_at};
+
+use std::alloc::{AllocError, Global};
+use std::marker::Model;
+use vp_loggram::Event;
+use vp_pay::Name;
+use vp_text::Out;
+
+/// A session: its name, and the text of its log.
+#[derive(Drop)]
+pub(crate) struct Kept {
+    name: Name,
+    text: Vec<u8>,
+}
+
+impl Model for Kept {
+    ghost use Rattle.vp_csv.specs.Kept.{Kept};
+
+    ghost Value = { Kept };
+
+    ghost view = { λ k. record { name = k.name; text = k.text.items } };
+}
+
+impl Kept {
+    /// A session that starts with so many credits.
+    pub(crate) fn open(alloc: Global, name: Name, start: u64) -> Result<Kept, AllocError>
+        ensures { IfOk result (λ k. k ≡ record { name = name; text = start_line start }) }
+    {
+        let mut text = Vec::new(alloc);
+        let mut out = Out::new();
+        out.word(b"log");
+        out.number(u128::from(start));
+        text.extend_from_slice(out.line())?;
+        Ok(Kept { name, text })
+    }
+
+    pub(crate) fn name(&self) -> &Name
+        ensures { result.now ≡ self.now.name }
+    {
+        &self.name
+    }
+
+    pub(crate) fn text(&self) -> &[u8]
+        ensures { result.now ≡ self.now.text }
+    {
+        self.text.as_slice()
+    }
+
+    fn has_name(&self, name: &[u8]) -> bool
+        ensures { result ≡ bytes_eq self.now.name name.now }
+    {
+        self.name.text() == name
+    }
+
+    /// Appends a game.
+    fn append(&mut self, event: &Event) -> Result<(), AllocError>
+        ensures { OnOk result (self.new ≡ with_text (line_of (event_words event.now)) self.old) }
+    {
+        event.append(&mut self.text)
+    }
+
+    /// Ends the log.
+    fn close(&mut self) -> Result<(), AllocError>
+        ensures { OnOk result (self.new ≡ closed self.old) }
+    {
+        self.text.extend_from_slice(b"end\n")
+    }
+}
+
+/// The place of the session with this name.
+pub(crate) fn place_of(sessions: &[Kept], name: &[u8]) -> Option<usize>
+    ensures { result ≡ position (has_name name.now) sessions.now }
+{
+    sessions.iter().position(|session| session.has_name(name))
+}
+
+/// Appends a game to the session at a place.
+pub(crate) fn append(sessions: &mut [Kept], place: usize, event: &Event) -> Result<(), AllocError>
+    requires { place < length sessions.old }
+    ensures { OnOk result
+        (sessions.new ≡ with_text_at place (line_of (event_words event.now)) sessions.old) }
+{
+    sessions[place].append(event)
+}
+
+/// Ends the logs.
+pub(crate) fn close_all(sessions: &mut [Kept]) -> Result<(), AllocError>
+    ensures { OnOk result (sessions.new ≡ map closed sessions.old) }
+{
+    for session in sessions.iter_mut() {
+        session.close()?;
+    }
+    Ok(())
+}

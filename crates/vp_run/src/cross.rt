@@ -1,0 +1,180 @@
+//! `cross`: what one pay table's best play costs on another.
+
+ghost use Rattle.std.specs.Prelude.{◌≡◌, ◌*◌, ◌≤◌, IfOk, length};
+ghost use Rattle.vp_count.specs.Table.{first_word};
+ghost use Rattle.vp_io.specs.Puts.{Puts};
+ghost use Rattle.vp_text.specs.Written.{line_of, written};
+ghost use Rattle.vp_answer.specs.Reads.{Reads};
+ghost use Rattle.vp_run.specs.Cross.{IsCrossing, cross_input, crossed_lines, crossed_of, total_lines, worst_words};
+
+use std::marker::Model;
+use vp_count::table_words;
+use vp_cross::{Crossed, Worst, cross};
+use vp_draws::return_denominator;
+use vp_hold::Game;
+use vp_io::{Sink, WriteFault};
+use vp_lines::{Word, put_lines, put_words};
+use vp_pay::PayTable;
+use vp_region::Region;
+use vp_text::{Lines, Refused};
+
+/// A pay table whose best play is priced by another, for a bet.
+#[derive(Drop)]
+pub struct CrossJob {
+    played: PayTable,
+    priced: PayTable,
+    coin: u8,
+}
+
+impl Model for CrossJob {
+    ghost use Rattle.vp_run.specs.Cross.{Crossing, IsCrossing};
+
+    ghost Value = { Crossing };
+
+    ghost view = { λ j. record { played = j.played; priced = j.priced; coin = j.coin } };
+
+    ghost invariant = { λ j. IsCrossing (record { played = j.played; priced = j.priced; coin = j.coin }) };
+}
+
+impl CrossJob {
+    ghost use Rattle.std.specs.Prelude.{◌≡◌, ◌*◌, ◌≤◌};
+    ghost use Rattle.vp_count.specs.Table.{first_word};
+    ghost use Rattle.vp_io.specs.Puts.{Puts};
+    ghost use Rattle.vp_run.specs.Cross.{IsCrossing, cross_lines};
+    ghost use Rattle.vp_text.specs.Written.{written};
+
+    pub(crate) fn new(played: PayTable, priced: PayTable, coin: u8) -> CrossJob
+        requires { IsCrossing (record { played = played; priced = priced; coin = coin }) }
+        ensures { result ≡ record { played = played; priced = priced; coin = coin } }
+    {
+        CrossJob {
+            played,
+            priced,
+            coin,
+        }
+    }
+
+    /// How many words of 64 bits it needs: a table of sums for each pay table.
+    pub(crate) fn words(&self) -> usize
+        ensures { result ≡ 2 * first_word self.now.played.deck 6 }
+    {
+        2 * table_words(self.played.deck)
+    }
+
+    /// Puts what the play costs.
+    pub(crate) fn put<K: Sink>(&self, region: &mut Region, sink: &mut K) -> Result<(), WriteFault>
+        requires { 2 * first_word self.now.played.deck 6 ≤ region.old }
+        ensures puts { Puts (K.told sink.old) (K.told sink.new) result (written (cross_lines self.now)) }
+        ensures same { region.new ≡ region.old }
+    {
+        let many = table_words(self.played.deck);
+        let mut carver = region.carve();
+        let words = carver.take_as_it_is(many).unwrap();
+        let more = carver.take_as_it_is(many).unwrap();
+        let crossed = crossed_of(&self.played, &self.priced, self.coin, words, more);
+        put_crossed(
+            &crossed,
+            return_denominator(self.played.deck, self.coin),
+            sink,
+        )
+    }
+}
+
+/// What the play of the first table costs on the second, out of the tables of sums that are made in the words.
+#[tactic(auto, unfolding(crate::specs::Cross::crossed_of))]
+fn crossed_of(
+    played: &PayTable,
+    priced: &PayTable,
+    coin: u8,
+    words: &mut [u64],
+    more: &mut [u64],
+) -> Crossed
+    requires crossing { IsCrossing (record { played = played.now; priced = priced.now; coin = coin }) }
+    requires long { length words.old ≡ first_word played.now.deck 6 }
+    requires longer { length more.old ≡ first_word played.now.deck 6 }
+    ensures all { result ≡ crossed_of (record { played = played.now; priced = priced.now; coin = coin }) }
+    ensures most { result.value ≤ result.optimum }
+{
+    let first = Game::of(played, coin, words);
+    let second = Game::of(priced, coin, more);
+    let crossed = cross(&first, &second);
+    Crossed {
+        optimum: crossed.optimum,
+        value: crossed.value,
+        classes: crossed.classes,
+        deals: crossed.deals,
+        worst: crossed.worst,
+    }
+}
+
+/// Puts what a play costs, its sums over this denominator.
+fn put_crossed<K: Sink>(crossed: &Crossed, under: u64, sink: &mut K) -> Result<(), WriteFault>
+    requires { crossed.now.value ≤ crossed.now.optimum }
+    ensures { Puts (K.told sink.old) (K.told sink.new) result (written (crossed_lines crossed.now under)) }
+{
+    put_totals(crossed, under, sink)?;
+    match &crossed.worst {
+        None => Ok(()),
+        Some(worst) => put_worst(worst, sink),
+    }
+}
+
+/// Puts the lines of the sums, and of the numbers of classes and deals.
+fn put_totals<K: Sink>(crossed: &Crossed, under: u64, sink: &mut K) -> Result<(), WriteFault>
+    requires { crossed.now.value ≤ crossed.now.optimum }
+    ensures { Puts (K.told sink.old) (K.told sink.new) result (written (total_lines crossed.now under)) }
+{
+    let under = under as u128;
+    let optimum = [
+        Word::Text(b"optimum"),
+        Word::Fraction(crossed.optimum, under),
+    ];
+    let value = [Word::Text(b"cross"), Word::Fraction(crossed.value, under)];
+    let loss = [
+        Word::Text(b"loss"),
+        Word::Fraction(crossed.optimum - crossed.value, under),
+    ];
+    let differ = [
+        Word::Text(b"differ"),
+        Word::Number(crossed.classes as u128),
+        Word::Number(crossed.deals as u128),
+    ];
+    put_lines(&[&optimum, &value, &loss, &differ], sink)
+}
+
+/// Puts the line of the class that costs most.
+fn put_worst<K: Sink>(worst: &Worst, sink: &mut K) -> Result<(), WriteFault>
+    ensures { Puts (K.told sink.old) (K.told sink.new) result (line_of (worst_words worst.now)) }
+{
+    let words = [
+        Word::Text(b"worst"),
+        Word::Hand(&worst.hand),
+        Word::Number(worst.mask as u128),
+        Word::Number(worst.best as u128),
+        Word::Number(worst.cost as u128),
+    ];
+    put_words(&words, sink)
+}
+
+/// The two pay tables that the bytes say, for a bet of `coin`.
+#[tactic(auto, unfolding(vp_answer::specs::Inputs::section_input))]
+pub(crate) fn read_cross_input(bytes: &[u8], coin: u8) -> Result<(PayTable, PayTable), Refused>
+    requires some { 1 ≤ coin }
+    requires limit { length bytes.now ≤ 67108864 }
+    ensures says { Reads (λ read. read) result (cross_input coin bytes.now) }
+    ensures crossing { IfOk result (λ read. IsCrossing (record { played = read.0; priced = read.1; coin = coin })) }
+{
+    let mut lines = Lines::new(bytes);
+    let played = PayTable::read(&mut lines)?;
+    if played.coins < coin {
+        return Err(Refused { line: lines.last() });
+    }
+    let priced = PayTable::read(&mut lines)?;
+    if priced.deck != played.deck || priced.coins < coin {
+        return Err(Refused { line: lines.last() });
+    }
+    match lines.next() {
+        None => Ok((played, priced)),
+        Some(words) => Err(Refused { line: words.line() }),
+    }
+}
