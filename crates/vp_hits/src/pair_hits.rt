@@ -32,7 +32,8 @@ impl<'a> Model for PairHits<'a> {
 
     ghost view = { λ h. record { table = h.table.now; first = h.first; second = h.second } };
 
-    ghost invariant = { λ h. AreTwoHits (record { table = h.table.now; first = h.first; second = h.second }) h.scales h.sums };
+    ghost invariant = { λ h.
+        AreTwoHits (record { table = h.table.now; first = h.first; second = h.second }) h.scales h.sums };
 }
 
 impl<'a> PairHits<'a> {

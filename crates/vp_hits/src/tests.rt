@@ -14,7 +14,9 @@ use vp_pay::samples::{ONE_JOKER, TWO_JOKERS, ZERO};
 
 /// The numbers of deals times the common denominators.
 const ALL_DRAWS_OF_52: u128 = 19933230517200;
+
 const ALL_DRAWS_OF_53: u128 = 24568865521200;
+
 const ALL_DRAWS_OF_54: u128 = 12061079437680;
 
 /// How often the first line comes for one coin, and how often none.
@@ -61,8 +63,14 @@ fn two_jokers(rt: HostRuntime) -> Result<(), Fail> {
     let (alone, counts) = told(rt.alloc(), TWO_JOKERS)?;
     let [one, both] = [counts.lines[0], counts.lines[1]];
     assert_eq!(rt; alone, [one, counts.none]);
-    assert_eq!(rt; one.wrapping_add(both).wrapping_add(counts.none), ALL_DRAWS_OF_54);
-    assert_eq!(rt; one.wrapping_add(both.wrapping_mul(2)), u128::from(counts.value));
+    assert_eq!(rt;
+        one.wrapping_add(both).wrapping_add(counts.none),
+        ALL_DRAWS_OF_54
+    );
+    assert_eq!(rt;
+        one.wrapping_add(both.wrapping_mul(2)),
+        u128::from(counts.value)
+    );
     Ok(())
 }
 
@@ -103,7 +111,10 @@ fn built_in_tables(rt: HostRuntime) -> Result<(), Fail> {
 #[test]
 fn royal_flushes(rt: HostRuntime) -> Result<(), Fail> {
     let (counts, sum, _) = shares(rt.alloc(), 0)?;
-    let hundredths = sum.wrapping_mul(1000).checked_div(counts.lines[0]).ok_or("no royal flush")?;
+    let hundredths = sum
+        .wrapping_mul(1000)
+        .checked_div(counts.lines[0])
+        .ok_or("no royal flush")?;
     assert_eq!(rt; hundredths.wrapping_add(5) / 10, 4039055);
     Ok(())
 }

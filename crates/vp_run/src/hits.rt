@@ -61,7 +61,8 @@ impl HitsJob {
     /// Puts the lines of the pay lines, of none, and of the return.
     pub(crate) fn put<K: Sink>(&self, region: &mut Region, sink: &mut K) -> Result<(), WriteFault>
         requires { 2 * first_word self.now.table.deck 6 ≤ region.old }
-        ensures puts { Puts (K.told sink.old) (K.told sink.new) result (written (hits_lines self.now)) }
+        ensures puts { Puts (K.told sink.old) (K.told sink.new) result
+            (written (hits_lines self.now)) }
         ensures same { region.new ≡ region.old }
     {
         let many = table_words(self.table.deck);
@@ -122,7 +123,8 @@ fn put_hit<K: Sink>(
 ) -> Result<(), WriteFault>
     requires some { 1 ≤ coin }
     requires most { coin ≤ 5 }
-    ensures { Puts (K.told sink.old) (K.told sink.new) result (line_of (hit_words line.now coin many all)) }
+    ensures { Puts (K.told sink.old) (K.told sink.new) result
+        (line_of (hit_words line.now coin many all)) }
 {
     let pay = line.pays[usize::from(coin - 1)];
     let words = [
@@ -142,7 +144,8 @@ fn put_ends<K: Sink>(
     under: u64,
     sink: &mut K,
 ) -> Result<(), WriteFault>
-    ensures { Puts (K.told sink.old) (K.told sink.new) result (written (end_lines none value all under)) }
+    ensures { Puts (K.told sink.old) (K.told sink.new) result
+        (written (end_lines none value all under)) }
 {
     let none = [Word::Text(b"none"), Word::Fraction(none, all as u128)];
     let value = [
