@@ -149,7 +149,7 @@ task_spelled word numbers read e =
     keyed (codes "multi") word numbers (multi numbers) _ read e (a_multi numbers read) (λ e.
     keyed (codes "hits") word numbers (bet Hits numbers) _ read e (a_bet (codes "hits") Hits (λ coin. refl) (λ coin is. is) numbers read) (λ e.
     keyed (codes "play") word numbers (play numbers) _ read e (a_play numbers read) (λ e.
-    keyed (codes "compile") word numbers (compile numbers) None read e (a_compile numbers read) (λ none. absurd cc)))))))))
+    keyed (codes "compile") word numbers (compile numbers) None read e (a_compile numbers read) (λ none. absurd cc))))))))))
 
 task_read : (task : Task) → InRange task → command_of (task_words task) ≡ Some (Over task)
 unfolding command_of task_of coin_of

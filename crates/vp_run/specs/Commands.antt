@@ -167,7 +167,7 @@ task_of word numbers =
     else (if bytes_eq word (codes "hits") then bet Hits numbers
     else (if bytes_eq word (codes "play") then play numbers
     else (if bytes_eq word (codes "compile") then compile numbers
-    else None))))))))
+    else None)))))))))
 
 -- the command of a word alone
 abbrev pub alone : Word → Option Command
