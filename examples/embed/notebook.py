@@ -29,6 +29,8 @@ def load(path):
 
 
 def main():
+    if len(sys.argv) < 2:
+        sys.exit(__doc__)
     library = load(sys.argv[1])
     here = os.path.dirname(os.path.abspath(__file__))
     with open(sys.argv[2] if len(sys.argv) > 2 else os.path.join(here, "..", "jacks-card.txt"), "rb") as given:

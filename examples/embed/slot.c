@@ -24,7 +24,11 @@ int main(int argc, char **argv)
 {
     char deal[16]; /* five cards, a line feed and a zero byte */
     FILE *file = argc == 2 ? fopen(argv[1], "rb") : NULL;
-    size_t length = file ? fread(table, 1, sizeof table - 32, file) : 0;
+    if (file == NULL) {
+        fprintf(stderr, "usage: slot TABLE\n");
+        return 2;
+    }
+    size_t length = fread(table, 1, sizeof table - 32, file);
     size_t end = ask("certify\0" "1", sizeof "certify\0" "1", length), line = end - 4;
     if (end == 0)
         return 1;
