@@ -1,5 +1,5 @@
 -- The lines of the pay lines are put, and then the two behind them.
-use Rattle.std.proofs.Common.{◌≡◌, ◌≤◌, List, ap, arith, length}
+use Rattle.std.proofs.Common.{List, ap, arith}
 use Rattle.std.specs.Prelude.{slice_index}
 use Rattle.vp_io.proofs.Puts_laws.{Puts_as, Puts_stopped, Puts_then}
 use Rattle.vp_pay.specs.declared.table.PayLine.{PayLine}
