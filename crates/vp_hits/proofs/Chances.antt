@@ -2,7 +2,7 @@
 use Rattle.std.proofs.Common.{◌≡◌, ◌⊎◌, ◌≢◌, inl, inr, ℕ, zero, suc, ◌+◌, ◌-◌, ◌*◌, ◌/◌, ◌%◌, ◌^◌, ◌<◌, ◌≤◌, Bool, true, false, List, [], ◌∷◌, Option, Some, None, length, get_or, set, replicate, refl, sym, ap, subst, ◌∙◌, arith, lit≤, length-set, get_or-set_same}
 use Rattle.std.proofs.Math.Path.{fun_ext}
 use Rattle.std.proofs.Math.Nat.{mul-le-mul_right, mul_assoc, mul_comm}
-use Rattle.std.specs.Prelude.{sum_by, if◌then◌else◌, ◌==◌, slice_index, position, IfSome}
+use Rattle.std.specs.Prelude.{sum_by, if◌then◌else◌, ◌==◌, slice_index, IfSome}
 use Rattle.std.specs.List.{All}
 use Rattle.std.proofs.lemmas.Bool.Decides.{nat_tests}
 use Rattle.std.proofs.lemmas.List.Quantifiers.{position-Some}
@@ -10,7 +10,7 @@ use Rattle.std.proofs.lemmas.Bool.{cases_eq}
 use Rattle.std.proofs.lemmas.List.{get_or-set_other, get_or_past, length-replicate}
 use Rattle.std.proofs.lemmas.List.Elements.{All-from_get_or, All-get_or}
 use Rattle.std.proofs.lemmas.List.Sums.{sum_by-cons}
-use Rattle.vp_card.specs.Cards.{IsDeck, IsHand, held, in_deck, joined}
+use Rattle.vp_card.specs.Cards.{IsHand, held, in_deck, joined}
 use Rattle.vp_pay.specs.declared.pattern.Pattern.TheVariants.{Royal}
 use Rattle.vp_pay.specs.declared.pattern.Qualifier.TheVariants.{Either}
 use Rattle.vp_pay.specs.declared.table.PayLine.{PayLine}
@@ -29,7 +29,7 @@ use Rattle.vp_count.specs.Sums.{hand_numbers, spread}
 use Rattle.vp_count.specs.Table.{AreSumsOf, Table}
 use Rattle.vp_count.proofs.HandNumbers.{spread_of}
 use Rattle.vp_hits.specs.Hits.{AreHits, Asked, chance, hit, hits, is_asked, mark}
-use Rattle.vp_hits.specs.Numbers.{AreNumbers, AreTwoHits, AskedTwo, number_of, place_among, told, two_hits, two_marks}
+use Rattle.vp_hits.specs.Numbers.{AreNumbers, AreTwoHits, AskedTwo, place_among, told, two_hits, two_marks}
 
 -- ---- the line of a hand
 

@@ -1,17 +1,14 @@
 -- The printed holds of a deal hit each line alike, and how often a line comes fits.
-use Rattle.std.proofs.Common.{◌≡◌, ℕ, ◌*◌, ◌^◌, ◌<◌, ◌≤◌, List, Option, Bool, length, ap, sym, refl, ◌∙◌, arith, if◌then◌else◌}
+use Rattle.std.proofs.Common.{◌≡◌, ℕ, ◌*◌, ◌^◌, ◌<◌, ◌≤◌, List, Option, length, ap, sym, refl, ◌∙◌, arith, if◌then◌else◌}
 use Rattle.std.specs.Prelude.{sum_by}
-use Rattle.std.proofs.Math.Nat.{mul-le-mul_left, mul-le-mul_right}
 use Rattle.vp_pay.specs.declared.table.PayTable.{PayTable}
 use Rattle.vp_pay.specs.Table.{IsTable}
 use Rattle.vp_sets.specs.Sets.{choose, combos, deck}
-use Rattle.vp_sets.specs.Draws.{common, discarded, scale, sum_over_draws}
-use Rattle.vp_sets.proofs.Denominators.{common_small}
+use Rattle.vp_sets.specs.Draws.{common, discarded, scale}
 use Rattle.vp_suit.specs.Classes.{IsDeal, IsKept, representative}
 use Rattle.vp_suit.specs.Turns.{carried, turn}
 use Rattle.vp_suit.proofs.ClassLaws.{representative_deal, representative_kept}
 use Rattle.vp_suit.proofs.TurnedDraws.{dealt_is}
-use Rattle.vp_wild.specs.Payment.{line}
 use Rattle.vp_draws.specs.Draws.{best, least_best, sum_of_best}
 use Rattle.vp_draws.proofs.Bounds.{denominator_fits, sum_of_best_fits}
 use Rattle.vp_draws.proofs.TurnedValues.{discards_turned, lines_turned}

@@ -1,5 +1,5 @@
 -- How often the printed holds draw to each pay line.
-use Rattle.std.specs.Prelude.{◌≡◌, ℕ, ◌-◌, ◌*◌, Bool, true, false, if◌then◌else◌, ◌==◌, List, Option, Some, None, length, map, slice_index, sum_by}
+use Rattle.std.specs.Prelude.{ℕ, ◌-◌, ◌*◌, Bool, true, false, if◌then◌else◌, ◌==◌, List, Option, Some, None, length, map, slice_index, sum_by}
 use Rattle.vp_pay.specs.declared.table.PayTable.{PayTable}
 use Rattle.vp_pay.specs.Table.{IsTable}
 use Rattle.vp_sets.specs.Sets.{combos, deck}

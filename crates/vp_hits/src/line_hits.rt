@@ -32,7 +32,8 @@ impl<'a> Model for Hits<'a> {
 
     ghost view = { λ h. record { table = h.table.now; line = h.line } };
 
-    ghost invariant = { λ h. AreHits (record { table = h.table.now; line = h.line }) h.scales h.sums };
+    ghost invariant = { λ h.
+        AreHits (record { table = h.table.now; line = h.line }) h.scales h.sums };
 }
 
 impl<'a> Hits<'a> {

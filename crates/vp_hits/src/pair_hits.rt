@@ -10,7 +10,7 @@ use crate::line_numbers::{SECOND, number_sums, two_marks_of};
 use std::marker::{Brand, Model};
 use std::sync::ledger::{Blank, Ledger};
 use vp_card::Hand;
-use vp_count::{Reads, SumTable, held_total};
+use vp_count::{Reads, SumTable, all_totals};
 use vp_hold::hold_scales;
 use vp_pay::PayTable;
 use vp_wild::Steps;
@@ -32,7 +32,8 @@ impl<'a> Model for PairHits<'a> {
 
     ghost view = { λ h. record { table = h.table.now; first = h.first; second = h.second } };
 
-    ghost invariant = { λ h. AreTwoHits (record { table = h.table.now; first = h.first; second = h.second }) h.scales h.sums };
+    ghost invariant = { λ h.
+        AreTwoHits (record { table = h.table.now; first = h.first; second = h.second }) h.scales h.sums };
 }
 
 impl<'a> PairHits<'a> {
@@ -60,7 +61,8 @@ impl<'a> PairHits<'a> {
         ensures second { result.1 ≡ chance self.now.table self.now.second hand.now mask }
     {
         let mut reads = Reads::new(&self.sums);
-        let total = held_total(&mut reads, &hand.numbers(), mask);
+        let totals = all_totals(&mut reads, &hand.numbers());
+        let total = totals[mask as usize];
         let scale = self.scales[mask as usize];
         (total % SECOND * scale, total / SECOND * scale)
     }

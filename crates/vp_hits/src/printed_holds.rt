@@ -30,7 +30,8 @@ impl<'a> Model for PrintedHolds<'a> {
 
     ghost view = { λ p. record { table = p.table.now; coin = p.coin; words = p.masks.now } };
 
-    ghost invariant = { λ p. IsPrinted (record { table = p.table.now; coin = p.coin; words = p.masks.now }) p.sum };
+    ghost invariant = { λ p.
+        IsPrinted (record { table = p.table.now; coin = p.coin; words = p.masks.now }) p.sum };
 }
 
 impl<'a> PrintedHolds<'a> {

@@ -1,12 +1,10 @@
 -- `hits`: what its input says, what it prints, and what that tells.
-use Rattle.std.specs.Prelude.{◌≡◌, ℕ, ◌+◌, ◌-◌, ◌*◌, ◌<◌, List, [], ◌∷◌, ◌++◌, Option, Some, None, Ok, Result, codes, slice_index}
+use Rattle.std.specs.Prelude.{ℕ, ◌+◌, ◌-◌, List, [], ◌∷◌, ◌++◌, Some, None, Result, codes, slice_index}
 use Rattle.std.specs.Fmt.{decimal}
 use Rattle.vp_text.specs.Lines.{Word}
 use Rattle.vp_text.specs.Sections.{Text}
 use Rattle.vp_pay.specs.declared.table.PayLine.{PayLine}
 use Rattle.vp_pay.specs.declared.table.PayTable.{PayTable}
-use Rattle.vp_sets.specs.Sets.{choose}
-use Rattle.vp_sets.specs.Draws.{common}
 use Rattle.vp_draws.specs.Draws.{return_denominator, sum_of_best}
 use Rattle.vp_hits.specs.Hits.{often}
 use Rattle.vp_answer.specs.Inputs.{AreRead, RefusesTable, SpellsTable, table_input}

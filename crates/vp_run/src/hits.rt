@@ -61,7 +61,8 @@ impl HitsJob {
     /// Puts the lines of the pay lines, of none, and of the return.
     pub(crate) fn put<K: Sink>(&self, region: &mut Region, sink: &mut K) -> Result<(), WriteFault>
         requires { 2 * first_word self.now.table.deck 6 ≤ region.old }
-        ensures puts { Puts (K.told sink.old) (K.told sink.new) result (written (hits_lines self.now)) }
+        ensures puts { Puts (K.told sink.old) (K.told sink.new) result
+            (written (hits_lines self.now)) }
         ensures same { region.new ≡ region.old }
     {
         let many = table_words(self.table.deck);
@@ -90,24 +91,26 @@ fn put_counts<K: Sink>(
 {
     let all = return_denominator(table.deck, 1);
     let under = return_denominator(table.deck, coin);
-    put_hits(table, coin, &counts.lines, all, sink)?;
+    put_hits(table.lines.as_slice(), coin, &counts.lines, all, sink)?;
     put_ends(counts.none, counts.value, all, under, sink)
 }
 
-/// Puts a line for each pay line.
+/// Puts a line for each of at most 34 pay lines.
 fn put_hits<K: Sink>(
-    table: &PayTable,
+    lines: &[PayLine],
     coin: u8,
     many: &[u128; 34],
     all: u64,
     sink: &mut K,
 ) -> Result<(), WriteFault>
-    requires bet { IsBet table.now coin }
+    requires some { 1 ≤ coin }
+    requires most { coin ≤ 5 }
+    requires few { length lines.now ≤ 34 }
     ensures { Puts (K.told sink.old) (K.told sink.new) result
-        (written (hit_lines (slice_index many.now) coin all 0 table.now.lines.items)) }
+        (written (hit_lines (slice_index many.now) coin all 0 lines.now)) }
 {
-    for place in 0..table.lines.len() {
-        put_hit(&table.lines[place], coin, many[place], all, sink)?;
+    for place in 0..lines.len() {
+        put_hit(&lines[place], coin, many[place], all, sink)?;
     }
     Ok(())
 }
@@ -122,7 +125,8 @@ fn put_hit<K: Sink>(
 ) -> Result<(), WriteFault>
     requires some { 1 ≤ coin }
     requires most { coin ≤ 5 }
-    ensures { Puts (K.told sink.old) (K.told sink.new) result (line_of (hit_words line.now coin many all)) }
+    ensures { Puts (K.told sink.old) (K.told sink.new) result
+        (line_of (hit_words line.now coin many all)) }
 {
     let pay = line.pays[usize::from(coin - 1)];
     let words = [
@@ -142,7 +146,8 @@ fn put_ends<K: Sink>(
     under: u64,
     sink: &mut K,
 ) -> Result<(), WriteFault>
-    ensures { Puts (K.told sink.old) (K.told sink.new) result (written (end_lines none value all under)) }
+    ensures { Puts (K.told sink.old) (K.told sink.new) result
+        (written (end_lines none value all under)) }
 {
     let none = [Word::Text(b"none"), Word::Fraction(none, all as u128)];
     let value = [

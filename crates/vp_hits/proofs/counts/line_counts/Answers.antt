@@ -1,9 +1,5 @@
-use Rattle.std.proofs.Common.{◌≡◌, ◌*◌, ◌<◌, ◌∙◌, Some, ap, arith}
-use Rattle.std.specs.Prelude.{Option}
-use Rattle.vp_pay.specs.declared.table.PayTable.{PayTable}
+use Rattle.std.proofs.Common.{◌∙◌, arith}
 use Rattle.vp_count.proofs.Words.{first_word_next}
-use Rattle.vp_hits.specs.Hits.{often}
-use Rattle.vp_hits.specs.Numbers.{asked_at}
 use Rattle.vp_hits.proofs.AskedLines.{asked_line, asked_none, same_often}
 use Rattle.vp_hits.proofs.counts.line_counts.Goals as goal
 

@@ -1,4 +1,4 @@
-use Rattle.std.proofs.Common.{◌≡◌, ◌+◌, ◌-◌, ◌≤◌, ◌∙◌, ap, subst, sym, arith, ℕ, List, length, map, get_or}
+use Rattle.std.proofs.Common.{◌≡◌, ◌+◌, ◌-◌, ◌≤◌, ◌∙◌, ap, subst, sym, arith, length, map, get_or}
 use Rattle.vp_pay.specs.declared.table.PayTable.{PayTable}
 use borrow.Rule.Slice.PartMut.{put_mid}
 use Rattle.vp_sets.proofs.Pascal.{choose_five}

@@ -1,5 +1,4 @@
-use Rattle.std.proofs.Common.{◌≡◌, ◌∷◌, ◌≤◌, ◌<◌, ◌∙◌, ap, subst, sym, arith, refl, ℕ, List, Option, length}
-use Rattle.std.specs.Prelude.{IfSome}
+use Rattle.std.proofs.Common.{◌≡◌, ◌∷◌, ◌≤◌, ◌∙◌, ap, subst, sym, arith, refl, ℕ, List, Option, length}
 use Rattle.vp_pay.specs.declared.table.PayTable.{PayTable}
 use Rattle.vp_sets.specs.Index.{IsSet}
 use Rattle.vp_count.proofs.HandNumbers.{four_upper, lower_is_set, run_start, run_more, run_done}

@@ -1,10 +1,9 @@
-use Rattle.std.proofs.Common.{◌≡◌, ◌+◌, ◌*◌, ◌≤◌, ◌∙◌, ap, arith}
-use Rattle.std.specs.Prelude.{sum_by}
+use Rattle.std.proofs.Common.{◌≡◌, ◌+◌, ◌*◌, ◌∙◌, ap, arith}
 use Rattle.vp_pay.specs.declared.table.PayTable.{PayTable}
 use Rattle.vp_suit.specs.Classes.{representatives, weight}
 use Rattle.vp_draws.specs.Draws.{best}
 use Rattle.vp_draws.proofs.TurnedValues.{best_kept}
-use Rattle.vp_hits.proofs.Masks.{masks_done, masks_more, masks_room, masks_start}
+use Rattle.vp_hits.proofs.Masks.{masks_more, masks_start}
 use Rattle.vp_hits.proofs.Printed.{best_fits_in, best_sum_is, weighed_chance}
 use Rattle.vp_hits.proofs.Weighed.{added_all, added_fits, added_more, added_none, next_hand}
 use Rattle.vp_hits.proofs.printed_holds.write_masks.Goals as goal

@@ -7,4 +7,4 @@ use Rattle.vp_run.proofs.hits.put_hits.Given as goal
 
 abbrev pub invariant-loop-place : goal.invariant-loop-place
 invariant-loop-place g l =
-    PutSoFar (g.K.Sink.told l.fn.sink) (g.K.Sink.told l.sink) (written (hit_lines (slice_index l.many) l.coin l.all 0 l.table.lines.items)) (written (hit_lines (slice_index l.many) l.coin l.all l.place (drop l.place l.table.lines.items)))
+    PutSoFar (g.K.Sink.told l.fn.sink) (g.K.Sink.told l.sink) (written (hit_lines (slice_index l.many) l.coin l.all 0 l.lines)) (written (hit_lines (slice_index l.many) l.coin l.all l.place (drop l.place l.lines)))
