@@ -51,6 +51,6 @@ fn what_hits_does_not_take(rt: HostRuntime) -> Result<(), Fail> {
     let input = joined(rt.alloc(), JACKS, b"end\n")?;
     let (status, text) = answered(rt.alloc(), &["hits", "5"], &input, 100)?;
     assert_eq!(rt; status, Status::Refused);
-    assert_eq!(rt; text.as_slice(), b"refused 15\n");
+    assert_eq!(rt; text.as_slice(), b"refused 15\n".as_slice());
     Ok(())
 }
