@@ -49,7 +49,7 @@ fn what_hits_does_not_take(rt: HostRuntime) -> Result<(), Fail> {
         assert_eq!(rt; text.as_slice(), said);
     }
     let input = joined(rt.alloc(), JACKS, b"end\n")?;
-    let (status, text) = answered(rt.alloc(), &["hits", "5"], &input, 100)?;
+    let (status, text) = answered(rt.alloc(), &["hits", "1"], &input, 100)?;
     assert_eq!(rt; status, Status::Refused);
     assert_eq!(rt; text.as_slice(), b"refused 15\n".as_slice());
     Ok(())
