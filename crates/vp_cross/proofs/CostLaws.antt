@@ -17,10 +17,11 @@ use Rattle.vp_suit.proofs.ClassLaws.{representatives_all, representatives_only, 
 use Rattle.vp_suit.proofs.Deals.{deal_rises}
 use Rattle.vp_suit.proofs.Representatives.{represented}
 use Rattle.vp_draws.specs.Draws.{sum_of_best}
+use Rattle.vp_draws.proofs.Printed.{has_printed_hold}
 use Rattle.vp_cross.specs.Crossings.{cost, costliest, costs, costly_classes, costly_deals, most, priced_class, sum_of_crossed, worst}
 use Rattle.vp_cross.specs.Laws.{CostsNothing, IsWorst, PrintsBestHolds}
 use Rattle.vp_cross.specs.declared.crossed.Worst.{Worst}
-use Rattle.vp_cross.proofs.Costs.{cost_kept, make_up, has_printed_hold, own_play, printed_value}
+use Rattle.vp_cross.proofs.Costs.{cost_kept, make_up, own_play, printed_value}
 use Rattle.vp_cross.proofs.Totals.{costs_add_up, deals_none, each_deal_none}
 
 -- ---- equal exactly where the printed holds are best
@@ -36,7 +37,7 @@ no_costs played priced coin t h = omega (arith, costs_add_up played priced coin 
 equal_sums : (played priced : PayTable) (coin : ℕ) → IsTable priced → PrintsBestHolds played priced coin → sum_of_crossed played priced coin ≡ sum_of_best priced coin
 equal_sums played priced coin t h =
     no_costs played priced coin t (λ cards d.
-    let hold = has_printed_hold played priced coin cards t d in
+    let hold = has_printed_hold played coin priced.deck cards d in
     omega (arith, h hold.0 cards d hold.2, make_up played priced coin cards t.known_deck.0 d, printed_value played priced coin hold.0 cards t d hold.2))
 
 pub equal_where_best : (played priced : PayTable) (coin : ℕ) → IsTable priced → (sum_of_crossed played priced coin ≡ sum_of_best priced coin) ↔ PrintsBestHolds played priced coin

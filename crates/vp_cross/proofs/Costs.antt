@@ -1,17 +1,15 @@
 -- Crossed values and costs of deals.
-use Rattle.std.proofs.Common.{◌≡◌, ℕ, true, ◌+◌, ◌-◌, ◌<◌, ◌≤◌, List, ap, sym, ◌∙◌, arith, refl}
+use Rattle.std.proofs.Common.{◌≡◌, ℕ, true, ◌+◌, ◌-◌, ◌≤◌, List, ap, sym, ◌∙◌, arith}
 use Rattle.vp_pay.specs.declared.table.PayTable.{PayTable}
 use Rattle.vp_pay.specs.Table.{IsTable}
-use Rattle.vp_suit.specs.Turns.{carried, turn}
-use Rattle.vp_suit.specs.Classes.{IsDeal, IsKept, is_representative, least_turn, representative}
-use Rattle.vp_suit.proofs.Deals.{deal_rises}
-use Rattle.vp_suit.proofs.Representatives.{represented}
+use Rattle.vp_suit.specs.Turns.{turn}
+use Rattle.vp_suit.specs.Classes.{IsDeal, IsKept, is_representative, representative}
 use Rattle.vp_suit.proofs.ClassLaws.{representative_kept, representative_own}
-use Rattle.vp_draws.specs.Draws.{best, least_best, value}
+use Rattle.vp_draws.specs.Draws.{IsPrintedHold, best, least_best, value}
 use Rattle.vp_draws.proofs.Chosen.{least_best_small, least_best_value, value_le_best}
-use Rattle.vp_draws.proofs.TurnedValues.{value_turned, best_turned, carried_from}
+use Rattle.vp_draws.proofs.Printed.{at_printed, best_of_class}
+use Rattle.vp_draws.proofs.TurnedValues.{value_turned, best_turned}
 use Rattle.vp_cross.specs.Crossings.{crossed_value, cost}
-use Rattle.vp_cross.specs.Laws.{IsPrintedHold}
 
 -- ---- turns keep both
 
@@ -35,17 +33,6 @@ own_crossed played priced coin cards big d stands =
 
 -- ---- a deal and the representative of its class
 
-by_least_turn : (cards : List ℕ) → turn (least_turn cards) cards ≡ representative cards
-unfolding representative
-by_least_turn cards = refl
-
-turns_to : (n : ℕ) (cards : List ℕ) → IsDeal n cards → least_turn cards < 24
-turns_to n cards d = (represented cards (deal_rises n cards d)).inside
-
-best_of_class : (priced : PayTable) (coin : ℕ) (cards : List ℕ) → 52 ≤ priced.deck → IsDeal priced.deck cards → best priced coin (representative cards) ≡ best priced coin cards
-best_of_class priced coin cards big d =
-    ap (best priced coin) (sym (by_least_turn cards)) ∙ best_turned (least_turn cards) coin priced cards big (turns_to priced.deck cards d) d
-
 pub crossed_le : (played priced : PayTable) (coin : ℕ) (cards : List ℕ) → 52 ≤ priced.deck → IsDeal priced.deck cards → crossed_value played priced coin cards ≤ best priced coin cards
 unfolding crossed_value
 crossed_le played priced coin cards big d =
@@ -63,14 +50,6 @@ own_play table coin cards big d = least_best_value table coin (representative ca
 
 -- ---- printed holds
 
-pub has_printed_hold : (played priced : PayTable) (coin : ℕ) (cards : List ℕ) → IsTable priced → IsDeal priced.deck cards → (mask : ℕ) × (mask < 32) × IsPrintedHold played coin cards mask
-has_printed_hold played priced coin cards t d =
-    let from = carried_from priced.deck (least_turn cards) (least_best played coin (representative cards)) cards (turns_to priced.deck cards d) d (least_best_small played coin (representative cards)) in
-    (from.0, from.1, record { turning = least_turn cards; within = turns_to priced.deck cards d; deal = by_least_turn cards; hold = from.2 })
-
 pub printed_value : (played priced : PayTable) (coin mask : ℕ) (cards : List ℕ) → IsTable priced → IsDeal priced.deck cards → IsPrintedHold played coin cards mask → value priced coin cards mask ≡ crossed_value played priced coin cards
 unfolding crossed_value
-printed_value played priced coin mask cards t d p =
-    sym (value_turned p.turning mask coin priced cards t.known_deck.0 p.within d)
-    ∙ ap (λ (x : List ℕ). value priced coin x (carried p.turning cards mask)) p.deal
-    ∙ ap (value priced coin (representative cards)) p.hold
+printed_value played priced coin mask cards t d p = at_printed (value priced coin) played coin cards mask (λ u l. value_turned u mask coin priced cards t.known_deck.0 l d) p

@@ -3,25 +3,11 @@ use Rattle.std.specs.Prelude.{◌≡◌, ◌↔◌, ℕ, ◌+◌, ◌<◌, ◌�
 use Rattle.vp_pay.specs.declared.table.PayTable.{PayTable}
 use Rattle.vp_pay.specs.Table.{IsTable}
 use Rattle.vp_sets.specs.Index.{set_index}
-use Rattle.vp_suit.specs.Classes.{IsDeal, is_representative, representative}
+use Rattle.vp_suit.specs.Classes.{IsDeal, is_representative}
 use Rattle.vp_suit.specs.Laws.{deals}
-use Rattle.vp_suit.specs.Turns.{carried, turn}
-use Rattle.vp_draws.specs.Draws.{best, least_best, sum_of_best, value}
+use Rattle.vp_draws.specs.Draws.{IsPrintedHold, best, least_best, sum_of_best, value}
 use Rattle.vp_cross.specs.Crossings.{cost, costly_classes, costly_deals, crossed_value, sum_of_crossed, worst}
 use Rattle.vp_cross.specs.declared.crossed.Worst.{Worst}
-
--- a printed hold of a deal: a turn of the suits makes the deal the representative of its class, and carries the hold to the least
--- best hold of that
-pub record IsPrintedHold (table : PayTable) (coin : ℕ) (cards : List ℕ) (mask : ℕ) : Type 0 where
-  pub turning : ℕ
-  pub within : turning < 24
-  pub deal : turn turning cards ≡ representative cards
-  pub hold : carried turning cards mask ≡ least_best table coin (representative cards)
-
--- each deal has a hold that the first table prints
-abbrev pub HasPrintedHold : Type 0
-HasPrintedHold = (played priced : PayTable) (coin : ℕ) (cards : List ℕ) → IsTable priced → IsDeal priced.deck cards
-    → (mask : ℕ) × (mask < 32) × IsPrintedHold played coin cards mask
 
 -- each hold that the first table prints for a deal is worth the crossed value of the deal on the second
 abbrev pub PrintedHoldsAreCrossed : Type 0

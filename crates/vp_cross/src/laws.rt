@@ -1,6 +1,7 @@
 //! Laws of one table's play on another, each the contract of a function that does nothing.
 
-ghost use Rattle.vp_cross.specs.Laws.{CostsAddUp, CostsMakeUp, CrossedNeverExceeds, EqualWhereBest, HasPrintedHold, NoneWhereEqual, OwnPlayCostsNothing, PrintedHoldsAreCrossed, WorstIsWorst};
+ghost use Rattle.vp_draws.specs.Laws.{HasPrintedHold};
+ghost use Rattle.vp_cross.specs.Laws.{CostsAddUp, CostsMakeUp, CrossedNeverExceeds, EqualWhereBest, NoneWhereEqual, OwnPlayCostsNothing, PrintedHoldsAreCrossed, WorstIsWorst};
 
 /// A law, for proofs: each deal has a hold that the first table prints, and what that is worth on the second is the best
 /// value less the cost.

@@ -5,3 +5,4 @@ pub mod Choice
 pub mod Chosen
 pub mod Bounds
 pub mod TurnedValues
+pub mod Printed

@@ -6,6 +6,8 @@ use Rattle.vp_pay.specs.declared.table.PayTable.{PayTable}
 use Rattle.vp_wild.specs.Payment.{pay}
 use Rattle.vp_sets.specs.Sets.{choose, combos, deck}
 use Rattle.vp_sets.specs.Draws.{common, discarded, draws, scale, sum_over_draws}
+use Rattle.vp_suit.specs.Classes.{representative}
+use Rattle.vp_suit.specs.Turns.{carried, turn}
 
 -- the sum of the payments over all draws of a hold
 unfoldable pub total : PayTable → ℕ → List ℕ → ℕ → ℕ
@@ -60,6 +62,14 @@ pub record IsPrinted (table : PayTable) (coin : ℕ) (hand : List ℕ) (mask top
   pub mean : (other : ℕ) → other < 32 → IsMean table.deck hand other (total table coin hand other) (value table coin hand other)
   pub greatest : (other : ℕ) → other < 32 → value table coin hand other ≤ top
   pub least : (other : ℕ) → other < mask → value table coin hand other < top
+
+-- a printed hold of a deal: a turn of the suits makes the deal the representative of its class, and carries the hold to the least
+-- best hold of that
+pub record IsPrintedHold (table : PayTable) (coin : ℕ) (cards : List ℕ) (mask : ℕ) : Type 0 where
+  pub turning : ℕ
+  pub within : turning < 24
+  pub deal : turn turning cards ≡ representative cards
+  pub hold : carried turning cards mask ≡ least_best table coin (representative cards)
 
 -- over what a return stands: the number of deals from a deck of n, times the common denominator, times the bet
 unfoldable pub return_denominator : ℕ → ℕ → ℕ

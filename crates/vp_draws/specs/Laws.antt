@@ -7,7 +7,7 @@ use Rattle.vp_suit.specs.Classes.{IsDeal, representative}
 use Rattle.vp_suit.specs.Laws.{sum_by_weight}
 use Rattle.vp_suit.specs.Turns.{carried, turn}
 use Rattle.vp_wild.specs.Payment.{line, pay}
-use Rattle.vp_draws.specs.Draws.{IsMean, IsPrinted, best, least_best, sum_of_best, value}
+use Rattle.vp_draws.specs.Draws.{IsMean, IsPrinted, IsPrintedHold, best, least_best, sum_of_best, value}
 
 -- ---- the best hold of a deal
 
@@ -84,3 +84,7 @@ BestIsCarried = (t mask coin : ℕ) (table : PayTable) (cards : List ℕ) → 52
 -- a mask that turn t carries to this one
 abbrev pub CarriedFrom : ℕ → List ℕ → ℕ → Type 0
 CarriedFrom t cards mask = (held_before : ℕ) × (held_before < 32) × (carried t cards held_before ≡ mask)
+
+-- each deal, from whatever deck, has a printed hold
+abbrev pub HasPrintedHold : Type 0
+HasPrintedHold = (table : PayTable) (coin n : ℕ) (cards : List ℕ) → IsDeal n cards → (mask : ℕ) × (mask < 32) × IsPrintedHold table coin cards mask

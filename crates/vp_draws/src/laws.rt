@@ -6,7 +6,7 @@ ghost use Rattle.vp_pay.specs.Table.{IsTable};
 ghost use Rattle.vp_sets.specs.Draws.{common};
 ghost use Rattle.vp_suit.specs.Classes.{IsDeal};
 ghost use Rattle.vp_draws.specs.Draws.{best, least_best, sum_of_best, total, total2, value, value2};
-ghost use Rattle.vp_draws.specs.Laws.{AreKept, AreMeans, BestIsCarried, BestIsKept, BestSumsByClasses, CarriedFrom, LeastBestIsBest, LinesAreKept, NoneExceedsBest, OfEachDeal, OfEachHold, PaymentsAreKept, PrintsLeastBest, SmallerMasksAreLess};
+ghost use Rattle.vp_draws.specs.Laws.{AreKept, AreMeans, BestIsCarried, BestIsKept, BestSumsByClasses, CarriedFrom, HasPrintedHold, LeastBestIsBest, LinesAreKept, NoneExceedsBest, OfEachDeal, OfEachHold, PaymentsAreKept, PrintsLeastBest, SmallerMasksAreLess};
 
 /// The best hold of a deal.
 pub fn best_hold_laws()
@@ -51,4 +51,6 @@ pub fn best_holds_are_carried()
     ensures best { BestIsCarried }
     // Each hold of a turned deal is carried along from one of the deal.
     ensures from { (n t mask : ℕ) (cards : List ℕ) → t < 24 → IsDeal n cards → mask < 32 → CarriedFrom t cards mask }
+    // So each deal has a printed hold.
+    ensures printed { HasPrintedHold }
 {}

@@ -9,10 +9,10 @@ use Rattle.vp_suit.specs.Classes.{IsDeal, IsKept, representative}
 use Rattle.vp_suit.specs.Turns.{carried, turn}
 use Rattle.vp_suit.proofs.ClassLaws.{representative_deal, representative_kept}
 use Rattle.vp_suit.proofs.TurnedDraws.{dealt_is}
-use Rattle.vp_draws.specs.Draws.{best, least_best, sum_of_best}
+use Rattle.vp_draws.specs.Draws.{IsPrintedHold, best, least_best, sum_of_best}
 use Rattle.vp_draws.proofs.Bounds.{denominator_fits, sum_of_best_fits}
+use Rattle.vp_draws.proofs.Printed.{at_printed}
 use Rattle.vp_draws.proofs.TurnedValues.{discards_turned, lines_turned}
-use Rattle.vp_multi.specs.Moments.{IsPrintedHold}
 use Rattle.vp_hits.specs.Hits.{chance, hit, hits, is_asked, often, printed_chance}
 use Rattle.vp_hits.proofs.Chances.{chance_le}
 use Rattle.vp_hits.proofs.Weighed.{deals_le}
@@ -31,10 +31,7 @@ chance_turned t mask table place cards big l d =
 pub printed_alike : (table : PayTable) (coin : ℕ) (place : Option ℕ) (cards : List ℕ) (mask : ℕ) → IsTable table → IsDeal table.deck cards → IsPrintedHold table coin cards mask
     → chance table place cards mask ≡ printed_chance table coin place cards
 unfolding printed_chance
-printed_alike table coin place cards mask t d p =
-    sym (chance_turned p.turning mask table place cards t.known_deck.0 p.within d)
-    ∙ ap (λ (x : List ℕ). chance table place x (carried p.turning cards mask)) p.deal
-    ∙ ap (chance table place (representative cards)) p.hold
+printed_alike table coin place cards mask t d p = at_printed (chance table place) table coin cards mask (λ u l. chance_turned u mask table place cards t.known_deck.0 l d) p
 
 -- turns keep it
 pub printed_kept : (table : PayTable) (coin : ℕ) (place : Option ℕ) → IsTable table → IsKept table.deck (printed_chance table coin place)

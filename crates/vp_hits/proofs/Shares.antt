@@ -16,17 +16,14 @@ use Rattle.vp_sets.proofs.Decks.{deck-suc, length-deck}
 use Rattle.vp_sets.proofs.Denominators.{scale_exact}
 use Rattle.vp_sets.proofs.Holds.{Dealt, length-draws, length-held}
 use Rattle.vp_sets.proofs.Sublists.{length-combos, sum_by-plus}
-use Rattle.vp_suit.specs.Classes.{IsDeal, least_turn, representative}
-use Rattle.vp_suit.specs.Turns.{turn}
+use Rattle.vp_suit.specs.Classes.{representative}
 use Rattle.vp_suit.proofs.ClassLaws.{representative_deal}
-use Rattle.vp_suit.proofs.Deals.{deal_rises}
-use Rattle.vp_suit.proofs.Representatives.{represented}
 use Rattle.vp_suit.proofs.TurnedDraws.{dealt_is}
 use Rattle.vp_wild.specs.Payment.{line, pay}
 use Rattle.vp_wild.proofs.ByShape.{pay_at, pay_none}
 use Rattle.vp_draws.specs.Draws.{best, least_best, sum_of_best, total, value}
 use Rattle.vp_draws.proofs.Chosen.{least_best_value}
-use Rattle.vp_draws.proofs.TurnedValues.{best_turned}
+use Rattle.vp_draws.proofs.Printed.{best_of_class}
 use Rattle.vp_hits.specs.Hits.{chance, hit, is_asked, often, payments, printed_chance}
 use Rattle.vp_hits.specs.Hits.{hits as line_hits}
 use Rattle.vp_hits.specs.Laws.{LinesMakeTheReturn, LinesShareOutDraws, over_lines}
@@ -222,14 +219,6 @@ one_said table cards mask t d =
 
 -- ---- all deals
 
-by_least_turn : (cards : List ℕ) → turn (least_turn cards) cards ≡ representative cards
-unfolding representative
-by_least_turn cards = refl
-
-best_of_class : (table : PayTable) (coin : ℕ) (cards : List ℕ) → IsTable table → IsDeal table.deck cards → best table coin (representative cards) ≡ best table coin cards
-best_of_class table coin cards t d =
-    ap (best table coin) (sym (by_least_turn cards)) ∙ best_turned (least_turn cards) coin table cards t.known_deck.0 (represented cards (deal_rises table.deck cards d)).inside d
-
 -- what g says of the lines, each as often as it comes
 often_said : (table : PayTable) (coin : ℕ) (g : ℕ → ℕ) → over_lines table (λ i. g i * often table coin (Some i)) ≡ sum_by (λ cards. over_lines table (λ i. g i * printed_chance table coin (Some i) cards)) (combos 5 (deck table.deck))
 unfolding often
@@ -243,7 +232,7 @@ unfolding sum_of_best printed_chance
 lines_make_the_return table coin t =
     often_said table coin (slice_index (payments table coin))
     ∙ deals_agree table.deck (λ cards. over_lines table (λ i. slice_index (payments table coin) i * printed_chance table coin (Some i) cards)) (best table coin)
-    (λ cards d. value_said table coin (representative cards) (least_best table coin (representative cards)) ∙ least_best_value table coin (representative cards) ∙ best_of_class table coin cards t d)
+    (λ cards d. value_said table coin (representative cards) (least_best table coin (representative cards)) ∙ least_best_value table coin (representative cards) ∙ best_of_class table coin cards t.known_deck.0 d)
 
 pub lines_share_out_draws : LinesShareOutDraws
 unfolding often printed_chance

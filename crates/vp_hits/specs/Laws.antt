@@ -5,8 +5,7 @@ use Rattle.vp_pay.specs.Table.{IsTable}
 use Rattle.vp_sets.specs.Sets.{choose, deck}
 use Rattle.vp_sets.specs.Draws.{common}
 use Rattle.vp_suit.specs.Classes.{IsDeal}
-use Rattle.vp_draws.specs.Draws.{sum_of_best}
-use Rattle.vp_multi.specs.Moments.{IsPrintedHold}
+use Rattle.vp_draws.specs.Draws.{IsPrintedHold, sum_of_best}
 use Rattle.vp_hits.specs.Hits.{chance, often, payments, printed_chance}
 
 -- under each printed hold of a deal a line has the same chance

@@ -7,13 +7,14 @@ use Rattle.vp_pay.specs.Table.{IsTable}
 use Rattle.vp_sets.specs.Draws.{common, draws, sum_over_draws}
 use Rattle.vp_suit.specs.Classes.{IsDeal}
 use Rattle.vp_suit.proofs.TurnedDraws.{dealt_is}
-use Rattle.vp_draws.specs.Draws.{best, total, total2, value, value2}
+use Rattle.vp_draws.specs.Draws.{IsPrintedHold, best, total, total2, value, value2}
+use Rattle.vp_draws.proofs.Printed.{has_printed_hold}
 use Rattle.vp_draws.proofs.Values.{value_mean, value2_mean}
-use Rattle.vp_multi.specs.Moments.{AreMoments, IsPrintedHold, paid, total_of, squares_of, sum_of_totals, sum_of_squares}
+use Rattle.vp_multi.specs.Moments.{AreMoments, paid, total_of, squares_of, sum_of_totals, sum_of_squares}
 use Rattle.vp_multi.specs.Sums.{printed_square, squared_value, first_moment, second_moment}
 use Rattle.vp_multi.proofs.Tuples.{total_is, squares_is, first_total, second_total, cancel, power_zero, power_suc}
 use Rattle.vp_multi.proofs.Squares.{square_of_sum, le_cancel}
-use Rattle.vp_multi.proofs.Printed.{printed_alike, has_printed_hold}
+use Rattle.vp_multi.proofs.Printed.{printed_alike}
 use Rattle.vp_sets.specs.Sets.{choose}
 use Rattle.vp_sets.specs.Draws.{discarded}
 use Rattle.vp_sets.proofs.Binomials.{choose_pos}
@@ -103,7 +104,7 @@ square_le_mean v q s l w u pos c e f =
 pub within_fits : (table : PayTable) (coin : ℕ) (cards : List ℕ) → IsTable table → IsDeal table.deck cards → squared_value table coin cards ≤ printed_square table coin cards * common table.deck
 unfolding squared_value
 within_fits table coin cards t d =
-    let hold = has_printed_hold table coin cards t d in
+    let hold = has_printed_hold table coin table.deck cards d in
     let mask : ℕ = hold.0 in
     let xs : List (List ℕ) = draws table.deck cards mask in
     let alike = printed_alike table coin cards mask t d hold.2 in

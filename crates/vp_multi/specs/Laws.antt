@@ -1,17 +1,12 @@
 -- What the moments of several hands are, and what they obey.
-use Rattle.std.specs.Prelude.{◌≡◌, ℕ, ◌+◌, ◌*◌, ◌<◌, List}
+use Rattle.std.specs.Prelude.{◌≡◌, ℕ, ◌+◌, ◌*◌, List}
 use Rattle.vp_pay.specs.declared.table.PayTable.{PayTable}
 use Rattle.vp_pay.specs.Table.{IsTable}
 use Rattle.vp_sets.specs.Sets.{choose}
 use Rattle.vp_suit.specs.Classes.{IsDeal}
-use Rattle.vp_draws.specs.Draws.{best, value, value2}
-use Rattle.vp_multi.specs.Moments.{AreMoments, IsPrintedHold}
+use Rattle.vp_draws.specs.Draws.{IsPrintedHold, best, value, value2}
+use Rattle.vp_multi.specs.Moments.{AreMoments}
 use Rattle.vp_multi.specs.Sums.{printed_square, first_moment, second_moment, mean_sum, second_sum, within_sum, between_sum}
-
--- each deal has a printed hold
-abbrev pub HasPrintedHold : Type 0
-HasPrintedHold = (table : PayTable) (coin : ℕ) (cards : List ℕ) → IsTable table → IsDeal table.deck cards
-    → (mask : ℕ) × (mask < 32) × IsPrintedHold table coin cards mask
 
 -- each printed hold of a deal has the greatest value, and all of them the same mean square
 abbrev pub PrintedAlike : Type 0

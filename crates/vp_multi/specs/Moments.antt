@@ -1,13 +1,10 @@
 -- Several hands from one deal: a deal and its hold are drawn to k times, each time from the same cards, and each list of k draws
 -- is as likely as the others.
-use Rattle.std.specs.Prelude.{◌≡◌, ℕ, zero, suc, ◌*◌, ◌^◌, ◌<◌, List, [], ◌∷◌, length, map, flat_map, sum_by}
+use Rattle.std.specs.Prelude.{◌≡◌, ℕ, zero, suc, ◌*◌, ◌^◌, List, [], ◌∷◌, length, map, flat_map, sum_by}
 use Rattle.vp_card.specs.Cards.{held, joined}
 use Rattle.vp_pay.specs.declared.table.PayTable.{PayTable}
 use Rattle.vp_sets.specs.Draws.{common, draws}
-use Rattle.vp_suit.specs.Classes.{representative}
-use Rattle.vp_suit.specs.Turns.{carried, turn}
 use Rattle.vp_wild.specs.Payment.{pay}
-use Rattle.vp_draws.specs.Draws.{least_best}
 
 -- all lists of k members of xs, repeats allowed
 unfoldable pub tuples : {A : Type 0} → ℕ → List A → List (List A)
@@ -38,11 +35,3 @@ sum_of_squares table coin k cards mask = squares_of (paid table coin cards mask)
 pub record AreMoments (table : PayTable) (coin k : ℕ) (cards : List ℕ) (mask first second : ℕ) : Type 0 where
   pub mean : sum_of_totals table coin k cards mask * common table.deck ≡ first * length (draws table.deck cards mask) ^ k
   pub square : sum_of_squares table coin k cards mask * common table.deck * common table.deck ≡ second * length (draws table.deck cards mask) ^ k
-
--- a printed hold of a deal: a turn of the suits makes the deal the representative of its class, and carries the hold to the least
--- best hold of that
-pub record IsPrintedHold (table : PayTable) (coin : ℕ) (cards : List ℕ) (mask : ℕ) : Type 0 where
-  pub turning : ℕ
-  pub within : turning < 24
-  pub deal : turn turning cards ≡ representative cards
-  pub hold : carried turning cards mask ≡ least_best table coin (representative cards)

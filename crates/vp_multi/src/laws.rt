@@ -1,6 +1,7 @@
 //! Laws of several hands from one deal, each the contract of a function that does nothing.
 
-ghost use Rattle.vp_multi.specs.Laws.{HasPrintedHold, MomentsAreUnique, MomentsExist, PrintedAlike, VarianceHasTwoParts};
+ghost use Rattle.vp_draws.specs.Laws.{HasPrintedHold};
+ghost use Rattle.vp_multi.specs.Laws.{MomentsAreUnique, MomentsExist, PrintedAlike, VarianceHasTwoParts};
 
 /// A law, for proofs: each deal has a printed hold, and all that it has are alike.
 pub fn hands_are_drawn_to_printed_holds()

@@ -9,11 +9,10 @@ use Rattle.vp_pay.specs.Table.{IsTable}
 use Rattle.vp_pay.specs.declared.table.PayLine.{PayLine}
 use Rattle.vp_pay.specs.declared.table.PayTable.{PayTable}
 use Rattle.vp_suit.specs.Classes.{IsDeal}
-use Rattle.vp_draws.specs.Draws.{return_denominator, sum_of_best}
-use Rattle.vp_multi.specs.Moments.{IsPrintedHold}
-use Rattle.vp_multi.proofs.Printed.{has_printed_hold, printed_alike}
+use Rattle.vp_draws.specs.Draws.{IsPrintedHold, return_denominator, sum_of_best}
+use Rattle.vp_draws.proofs.Printed.{has_printed_hold, printed_best}
 use Rattle.vp_hits.specs.Hits.{often}
-use Rattle.vp_hits.proofs.Printed.{printed_alike as chances_alike}
+use Rattle.vp_hits.proofs.Printed.{printed_alike}
 use Rattle.vp_hits.proofs.Shares.{lines_make_the_return, lines_share_out_draws}
 use Rattle.vp_answer.specs.Answers.{Answer, answer_read, done}
 use Rattle.vp_answer.proofs.Inputs.{tables_read}
@@ -36,15 +35,15 @@ hits_as words coin bytes table is says =
 
 deal_chances : (s : Staked) (cards : List ℕ) (mask : ℕ) → IsTable s.table → IsDeal s.table.deck cards → IsPrintedHold s.table s.coin cards mask → HasChances s cards mask
 deal_chances s cards mask known deal hold = record {
-  best = (printed_alike s.table s.coin cards mask known deal hold).0;
-  alike = λ place. chances_alike s.table s.coin place cards mask known deal hold;
+  best = printed_best s.table s.coin cards mask known.known_deck.0 deal hold;
+  alike = λ place. printed_alike s.table s.coin place cards mask known deal hold;
 }
 
 chances_told : (s : Staked) (due : Answer) → done (written (hits_lines s)) ≡ due → IsTable s.table → PrintsChances s due
 chances_told s due is known = record {
   status = ap (λ (a : Answer). a.status) (sym is);
   text = ap (λ (a : Answer). a.text) (sym is);
-  some = λ cards deal. has_printed_hold s.table s.coin cards known deal;
+  some = λ cards deal. has_printed_hold s.table s.coin s.table.deck cards deal;
   holds = λ cards mask deal hold. deal_chances s cards mask known deal hold;
   shares = lines_share_out_draws s.table s.coin known;
   return = lines_make_the_return s.table s.coin known;

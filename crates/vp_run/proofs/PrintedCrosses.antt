@@ -8,12 +8,12 @@ use Rattle.vp_pay.specs.declared.table.PayTable.{PayTable}
 use Rattle.vp_suit.specs.Classes.{IsDeal}
 use Rattle.vp_suit.specs.Laws.{deals}
 use Rattle.vp_suit.proofs.TurnedDraws.{dealt_is}
-use Rattle.vp_draws.specs.Draws.{best, sum_of_best}
+use Rattle.vp_draws.specs.Draws.{IsPrintedHold, best, sum_of_best}
+use Rattle.vp_draws.proofs.Printed.{has_printed_hold}
 use Rattle.vp_draws.proofs.Values.{value_mean}
 use Rattle.vp_cross.specs.Crossings.{cost, crossed_value, sum_of_crossed}
-use Rattle.vp_cross.specs.Laws.{IsPrintedHold}
 use Rattle.vp_cross.proofs.CostLaws.{none_where_equal, worst_is_worst}
-use Rattle.vp_cross.proofs.Costs.{has_printed_hold, make_up, printed_value}
+use Rattle.vp_cross.proofs.Costs.{make_up, printed_value}
 use Rattle.vp_cross.proofs.Totals.{costs_add_up, never_exceeds}
 use Rattle.vp_answer.specs.Answers.{Answer, answer_read, done}
 use Rattle.vp_run.specs.Answer.{answer, cross_job, job_answer, read_as}
@@ -45,7 +45,7 @@ unfolding crossed_of sum_of_crossed sum_of_best
 cross_told c due is known = record {
   status = ap (λ (a : Answer). a.status) (sym is);
   text = ap (λ (a : Answer). a.text) (sym is);
-  some = λ cards deal. has_printed_hold c.played c.priced c.coin cards known deal;
+  some = λ cards deal. has_printed_hold c.played c.coin c.priced.deck cards deal;
   holds = λ cards mask deal hold. crossed_hold c cards mask known deal hold;
   optimum = refl;
   value = refl;

@@ -6,11 +6,12 @@ use Rattle.vp_text.specs.Written.{written}
 use Rattle.vp_pay.specs.Table.{IsTable}
 use Rattle.vp_pay.specs.declared.table.PayTable.{PayTable}
 use Rattle.vp_suit.specs.Classes.{IsDeal}
-use Rattle.vp_multi.specs.Moments.{IsPrintedHold}
+use Rattle.vp_draws.specs.Draws.{IsPrintedHold}
+use Rattle.vp_draws.proofs.Printed.{has_printed_hold}
 use Rattle.vp_multi.specs.Sums.{mean_sum, second_sum, within_sum}
 use Rattle.vp_multi.proofs.DealMoments.{moments_are_unique, moments_exist, within_fits}
 use Rattle.vp_multi.proofs.DeckSums.{variance_has_two_parts}
-use Rattle.vp_multi.proofs.Printed.{has_printed_hold, printed_alike}
+use Rattle.vp_multi.proofs.Printed.{printed_alike}
 use Rattle.vp_answer.specs.Answers.{Answer, answer_read, done}
 use Rattle.vp_answer.proofs.Inputs.{tables_read}
 use Rattle.vp_run.specs.Answer.{answer, job_answer, multi_job, read_as}
@@ -43,7 +44,7 @@ unfolding moments_of mean_sum second_sum within_sum
 moments_told d due is known = record {
   status = ap (λ (a : Answer). a.status) (sym is);
   text = ap (λ (a : Answer). a.text) (sym is);
-  some = λ cards deal. has_printed_hold d.table d.coin cards known deal;
+  some = λ cards deal. has_printed_hold d.table d.coin d.table.deck cards deal;
   holds = λ cards mask deal hold. deal_moments d cards mask known deal hold;
   mean = refl;
   second = refl;

@@ -6,8 +6,7 @@ use Rattle.vp_pay.specs.declared.table.PayTable.{PayTable}
 use Rattle.vp_sets.specs.Draws.{common}
 use Rattle.vp_sets.specs.Sets.{choose}
 use Rattle.vp_suit.specs.Classes.{IsDeal}
-use Rattle.vp_draws.specs.Draws.{best, sum_of_best, value}
-use Rattle.vp_multi.specs.Moments.{IsPrintedHold}
+use Rattle.vp_draws.specs.Draws.{IsPrintedHold, best, sum_of_best, value}
 use Rattle.vp_hits.specs.Hits.{chance, often, payments, printed_chance}
 use Rattle.vp_hits.specs.Laws.{over_lines}
 use Rattle.vp_answer.specs.Answers.{Answer}

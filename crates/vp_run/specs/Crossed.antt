@@ -5,9 +5,9 @@ use Rattle.vp_text.specs.Written.{written}
 use Rattle.vp_pay.specs.declared.table.PayTable.{PayTable}
 use Rattle.vp_suit.specs.Classes.{IsDeal}
 use Rattle.vp_suit.specs.Laws.{deals}
-use Rattle.vp_draws.specs.Draws.{IsMean, best, total, value}
+use Rattle.vp_draws.specs.Draws.{IsMean, IsPrintedHold, best, total, value}
 use Rattle.vp_cross.specs.Crossings.{cost, crossed_value}
-use Rattle.vp_cross.specs.Laws.{IsPrintedHold, IsWorst}
+use Rattle.vp_cross.specs.Laws.{IsWorst}
 use Rattle.vp_cross.specs.declared.crossed.Worst.{Worst}
 use Rattle.vp_answer.specs.Answers.{Answer}
 use Rattle.vp_answer.specs.declared.status.Status.TheVariants.{Done}

@@ -6,8 +6,8 @@ use Rattle.vp_pay.specs.declared.table.PayTable.{PayTable}
 use Rattle.vp_sets.specs.Draws.{common}
 use Rattle.vp_sets.specs.Sets.{choose}
 use Rattle.vp_suit.specs.Classes.{IsDeal}
-use Rattle.vp_draws.specs.Draws.{best, value, value2}
-use Rattle.vp_multi.specs.Moments.{AreMoments, IsPrintedHold}
+use Rattle.vp_draws.specs.Draws.{IsPrintedHold, best, value, value2}
+use Rattle.vp_multi.specs.Moments.{AreMoments}
 use Rattle.vp_suit.specs.Laws.{deals}
 use Rattle.vp_multi.specs.Sums.{first_moment, printed_square, second_moment, squared_value, variance_within}
 use Rattle.vp_answer.specs.Answers.{Answer}

@@ -1,4 +1,5 @@
-use Rattle.vp_cross.proofs.Costs.{has_printed_hold, make_up, printed_value}
+use Rattle.vp_draws.proofs.Printed.{has_printed_hold}
+use Rattle.vp_cross.proofs.Costs.{make_up, printed_value}
 use Rattle.vp_cross.proofs.laws.costs_are_of_printed_holds.Goals as goal
 
 pub returns-clause-some : goal.returns-clause-some

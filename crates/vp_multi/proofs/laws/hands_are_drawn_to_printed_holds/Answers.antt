@@ -1,4 +1,5 @@
-use Rattle.vp_multi.proofs.Printed.{has_printed_hold, printed_alike}
+use Rattle.vp_draws.proofs.Printed.{has_printed_hold}
+use Rattle.vp_multi.proofs.Printed.{printed_alike}
 use Rattle.vp_multi.proofs.laws.hands_are_drawn_to_printed_holds.Goals as goal
 
 pub returns-clause-some : goal.returns-clause-some
