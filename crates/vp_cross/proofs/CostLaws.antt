@@ -16,13 +16,14 @@ use Rattle.vp_suit.specs.Classes.{IsDeal, is_representative, least_turn, represe
 use Rattle.vp_suit.proofs.ClassLaws.{representatives_all, representatives_only, representatives_rise, representative_own}
 use Rattle.vp_suit.proofs.Deals.{deal_rises}
 use Rattle.vp_suit.proofs.Representatives.{represented}
+use Rattle.vp_suit.proofs.Weighed.{deals_none, each_deal_none}
 use Rattle.vp_draws.specs.Draws.{sum_of_best}
 use Rattle.vp_draws.proofs.Printed.{has_printed_hold}
 use Rattle.vp_cross.specs.Crossings.{cost, costliest, costs, costly_classes, costly_deals, most, priced_class, sum_of_crossed, worst}
 use Rattle.vp_cross.specs.Laws.{CostsNothing, IsWorst, PrintsBestHolds}
 use Rattle.vp_cross.specs.declared.crossed.Worst.{Worst}
 use Rattle.vp_cross.proofs.Costs.{cost_kept, make_up, own_play, printed_value}
-use Rattle.vp_cross.proofs.Totals.{costs_add_up, deals_none, each_deal_none}
+use Rattle.vp_cross.proofs.Totals.{costs_add_up}
 
 -- ---- equal exactly where the printed holds are best
 

@@ -1,10 +1,10 @@
 -- Crossed values and costs of deals.
-use Rattle.std.proofs.Common.{◌≡◌, ℕ, true, ◌+◌, ◌-◌, ◌≤◌, List, ap, sym, ◌∙◌, arith}
+use Rattle.std.proofs.Common.{◌≡◌, ℕ, ◌+◌, ◌-◌, ◌≤◌, List, ap, sym, ◌∙◌, arith}
 use Rattle.vp_pay.specs.declared.table.PayTable.{PayTable}
 use Rattle.vp_pay.specs.Table.{IsTable}
 use Rattle.vp_suit.specs.Turns.{turn}
-use Rattle.vp_suit.specs.Classes.{IsDeal, IsKept, is_representative, representative}
-use Rattle.vp_suit.proofs.ClassLaws.{representative_kept, representative_own}
+use Rattle.vp_suit.specs.Classes.{IsDeal, IsKept, representative}
+use Rattle.vp_suit.proofs.ClassLaws.{representative_kept}
 use Rattle.vp_draws.specs.Draws.{IsPrintedHold, best, least_best, value}
 use Rattle.vp_draws.proofs.Chosen.{least_best_small, least_best_value, value_le_best}
 use Rattle.vp_draws.proofs.Printed.{at_printed, best_of_class}
@@ -25,15 +25,13 @@ cost_kept played priced coin big t cards l d =
     ∙ ap (λ v. best priced coin cards - v) (crossed_kept played priced coin big t cards l d)
 
 -- at a representative
-pub own_crossed : (played priced : PayTable) (coin : ℕ) (cards : List ℕ) → 52 ≤ priced.deck → IsDeal priced.deck cards → is_representative cards ≡ true
-    → value priced coin cards (least_best played coin cards) ≡ crossed_value played priced coin cards
+pub own_crossed : (played priced : PayTable) (coin : ℕ) (cards : List ℕ) → representative cards ≡ cards → value priced coin cards (least_best played coin cards) ≡ crossed_value played priced coin cards
 unfolding crossed_value
-own_crossed played priced coin cards big d stands =
-    ap (λ (r : List ℕ). value priced coin r (least_best played coin r)) (sym (representative_own priced.deck cards big d stands))
+own_crossed played priced coin cards own = ap (λ (r : List ℕ). value priced coin r (least_best played coin r)) (sym own)
 
 -- ---- a deal and the representative of its class
 
-pub crossed_le : (played priced : PayTable) (coin : ℕ) (cards : List ℕ) → 52 ≤ priced.deck → IsDeal priced.deck cards → crossed_value played priced coin cards ≤ best priced coin cards
+crossed_le : (played priced : PayTable) (coin : ℕ) (cards : List ℕ) → 52 ≤ priced.deck → IsDeal priced.deck cards → crossed_value played priced coin cards ≤ best priced coin cards
 unfolding crossed_value
 crossed_le played priced coin cards big d =
     omega (arith, value_le_best priced coin (representative cards) (least_best played coin (representative cards)) (least_best_small played coin (representative cards)), best_of_class priced coin cards big d)

@@ -1,6 +1,6 @@
 -- Best values, and their sum over all deals, fit 64 bits.
-use Rattle.std.proofs.Common.{◌≡◌, ℕ, zero, suc, ◌*◌, ◌^◌, ◌<◌, ◌≤◌, List, sym, lit≤, arith}
-use Rattle.std.proofs.Math.Nat.{mul-le-mul_left, mul-le-mul_right, mul-suc}
+use Rattle.std.proofs.Common.{◌≡◌, ℕ, ◌*◌, ◌^◌, ◌<◌, ◌≤◌, List, arith}
+use Rattle.std.proofs.Math.Nat.{mul-le-mul_left, mul-le-mul_right}
 use Rattle.std.specs.List.{sum_by}
 use Rattle.vp_card.specs.Cards.{IsDeck}
 use Rattle.vp_sets.specs.Sets.{deck, combos, choose}
@@ -8,9 +8,8 @@ use Rattle.vp_sets.specs.Draws.{common}
 use Rattle.vp_sets.proofs.Pascal.{choose_five}
 use Rattle.vp_sets.proofs.Denominators.{common_small}
 use Rattle.vp_sets.proofs.Holds.{Dealt}
-use Rattle.vp_suit.proofs.Below.{below, below-zero, below-suc}
-use Rattle.vp_suit.proofs.Deals.{deal, deal_is, sum_of_deals}
 use Rattle.vp_suit.proofs.TurnedDraws.{dealt_is}
+use Rattle.vp_suit.proofs.Weighed.{deals_le}
 use Rattle.vp_pay.specs.declared.table.PayTable.{PayTable}
 use Rattle.vp_pay.specs.Table.{IsTable}
 use Rattle.vp_draws.specs.Draws.{best, sum_of_best}
@@ -23,11 +22,6 @@ best_small table coin hand t d = best_le table coin hand (500000 * common table.
 pub best_fits : (table : PayTable) (coin : ℕ) (hand : List ℕ) → IsTable table → Dealt table.deck hand → best table coin hand < 2 ^ 64
 best_fits table coin hand t d = omega (arith, best_small table coin hand t d, common_small table.deck t.known_deck)
 
--- a bound on each term bounds the sum
-below_le : (x : ℕ → ℕ) (m n : ℕ) → ((i : ℕ) → i < n → x i ≤ m) → below x n ≤ m * n
-below_le x m zero h = omega (arith, below-zero x)
-below_le x m (suc n) h = omega (arith, below-suc x n, below_le x m n (λ i l. h i (omega arith)), h n (omega arith), mul-suc m n)
-
 -- the greatest payment for every deal of a deck fits
 pub room : (n : ℕ) → IsDeck n → 500000 * common n * choose n 5 < 2 ^ 64
 room n h =
@@ -36,15 +30,15 @@ room n h =
 
 pub sum_of_best_small : (table : PayTable) (coin : ℕ) → IsTable table → sum_of_best table coin ≤ 500000 * common table.deck * choose table.deck 5
 unfolding sum_of_best
-sum_of_best_small table coin t =
-    let n : ℕ = table.deck in
-    let total : sum_by (best table coin) (combos 5 (deck n)) ≡ below (λ i. best table coin (deal n i)) (choose n 5) = sum_of_deals n (best table coin) in
-    let bound : below (λ i. best table coin (deal n i)) (choose n 5) ≤ 500000 * common n * choose n 5 =
-    below_le (λ i. best table coin (deal n i)) (500000 * common n) (choose n 5) (λ i l. best_small table coin (deal n i) t (dealt_is n (deal n i) (deal_is n i l).0)) in
-    omega arith
+sum_of_best_small table coin t = deals_le table.deck (500000 * common table.deck) (best table coin) (λ cards d. best_small table coin cards t (dealt_is table.deck cards d))
 
 pub sum_of_best_fits : (table : PayTable) (coin : ℕ) → IsTable table → sum_of_best table coin < 2 ^ 64
 sum_of_best_fits table coin t = omega (arith, sum_of_best_small table coin t, room table.deck t.known_deck)
+
+-- as the sum that it is
+pub best_sum_fits : (table : PayTable) (coin : ℕ) → IsTable table → sum_by (best table coin) (combos 5 (deck table.deck)) < 2 ^ 64
+unfolding sum_of_best
+best_sum_fits table coin t = sum_of_best_fits table coin t
 
 -- ---- the denominator of a return
 

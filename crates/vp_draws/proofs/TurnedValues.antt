@@ -1,6 +1,7 @@
 -- Totals, values and best values of deals whose suits are turned.
 use Rattle.std.proofs.Common.{◌≡◌, ℕ, ◌*◌, ◌^◌, ◌<◌, ◌≤◌, Option, List, length, ap, sym, subst, ◌∙◌, arith, sum_by}
 use Rattle.vp_sets.specs.Draws.{discarded, scale, sum_over_draws}
+use Rattle.vp_sets.specs.Sets.{combos, deck}
 use Rattle.vp_pay.specs.declared.table.PayTable.{PayTable}
 use Rattle.vp_suit.specs.Turns.{turn, carried}
 use Rattle.vp_suit.specs.Classes.{IsDeal, IsKept, representative, representatives, weight}
@@ -74,6 +75,10 @@ best_kept coin table big t cards l d = best_turned t coin table cards big l d
 pub best_by_classes : (coin : ℕ) (table : PayTable) → 52 ≤ table.deck → sum_by (λ cards. weight cards * best table coin cards) (representatives table.deck) ≡ sum_of_best table coin
 unfolding sum_of_best
 best_by_classes coin table big = sum_by_classes table.deck big (best table coin) (best_kept coin table big)
+
+pub best_sum_is : (table : PayTable) (coin sum : ℕ) → sum ≡ sum_by (best table coin) (combos 5 (deck table.deck)) → sum ≡ sum_of_best table coin
+unfolding sum_of_best
+best_sum_is table coin sum is = is
 
 -- a hold that is carried along to a best hold is a best hold
 pub best_from : (t mask coin : ℕ) (table : PayTable) (cards : List ℕ) → 52 ≤ table.deck → t < 24 → IsDeal table.deck cards

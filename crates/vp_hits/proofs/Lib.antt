@@ -1,5 +1,4 @@
 pub mod Chances
-pub mod Weighed
 pub mod Printed
 pub mod Shares
 pub mod Masks

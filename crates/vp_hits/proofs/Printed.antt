@@ -9,13 +9,13 @@ use Rattle.vp_suit.specs.Classes.{IsDeal, IsKept, representative}
 use Rattle.vp_suit.specs.Turns.{carried, turn}
 use Rattle.vp_suit.proofs.ClassLaws.{representative_deal, representative_kept}
 use Rattle.vp_suit.proofs.TurnedDraws.{dealt_is}
-use Rattle.vp_draws.specs.Draws.{IsPrintedHold, best, least_best, sum_of_best}
-use Rattle.vp_draws.proofs.Bounds.{denominator_fits, sum_of_best_fits}
+use Rattle.vp_draws.specs.Draws.{IsPrintedHold, least_best}
+use Rattle.vp_draws.proofs.Bounds.{denominator_fits}
 use Rattle.vp_draws.proofs.Printed.{at_printed}
 use Rattle.vp_draws.proofs.TurnedValues.{discards_turned, lines_turned}
 use Rattle.vp_hits.specs.Hits.{chance, hit, hits, is_asked, often, printed_chance}
 use Rattle.vp_hits.proofs.Chances.{chance_le}
-use Rattle.vp_hits.proofs.Weighed.{deals_le}
+use Rattle.vp_suit.proofs.Weighed.{deals_le}
 
 hits_turned : (t mask : ℕ) (table : PayTable) (place : Option ℕ) (cards : List ℕ) → 52 ≤ table.deck → t < 24 → IsDeal table.deck cards → hits table place (turn t cards) (carried t cards mask) ≡ hits table place cards mask
 unfolding hits hit
@@ -64,12 +64,3 @@ often_is table coin place sum is = is
 -- what a class adds
 pub weighed_chance : {w x v f : ℕ} → w ≡ x → v ≡ f → w * v ≡ x * f
 weighed_chance e g = rw (e, g) refl
-
--- the sum of the best values
-pub best_fits_in : (table : PayTable) (coin : ℕ) → IsTable table → sum_by (best table coin) (combos 5 (deck table.deck)) < 2 ^ 64
-unfolding sum_of_best
-best_fits_in table coin t = sum_of_best_fits table coin t
-
-pub best_sum_is : (table : PayTable) (coin : ℕ) (sum : ℕ) → sum ≡ sum_by (best table coin) (combos 5 (deck table.deck)) → sum ≡ sum_of_best table coin
-unfolding sum_of_best
-best_sum_is table coin sum is = is

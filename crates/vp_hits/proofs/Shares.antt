@@ -1,21 +1,20 @@
 -- All lines and none share out the draws, and what the lines pay makes the return.
-use Rattle.std.proofs.Common.{◌≡◌, ◌⊎◌, ◌≢◌, inl, inr, ℕ, zero, suc, ◌+◌, ◌-◌, ◌*◌, ◌<◌, ◌≤◌, Bool, true, false, if◌then◌else◌, ◌==◌, List, [], ◌∷◌, Option, Some, None, length, get_or, refl, sym, ap, ◌∙◌, arith}
-use Rattle.std.proofs.Math.Path.{fun_ext}
-use Rattle.std.proofs.Math.Nat.{mul_assoc, mul_comm}
+use Rattle.std.proofs.Common.{◌≡◌, ◌⊎◌, ◌≢◌, inl, inr, ℕ, zero, suc, ◌+◌, ◌-◌, ◌*◌, ◌<◌, ◌≤◌, Bool, true, false, if◌then◌else◌, ◌==◌, List, Option, Some, None, length, get_or, refl, sym, ap, ◌∙◌, arith}
+use Rattle.std.proofs.Math.Nat.{mul_assoc}
 use Rattle.std.specs.Prelude.{sum_by, slice_index}
 use Rattle.std.proofs.lemmas.Bool.Decides.{nat_tests}
 use Rattle.std.proofs.lemmas.List.{get_or-map}
-use Rattle.std.proofs.lemmas.List.Sums.{sum_by-cons, sum_by_push}
 use Rattle.vp_card.specs.Cards.{held, joined}
 use Rattle.vp_pay.specs.declared.table.PayLine.{PayLine}
 use Rattle.vp_pay.specs.declared.table.PayTable.{PayTable}
 use Rattle.vp_pay.specs.Table.{IsTable}
 use Rattle.vp_sets.specs.Sets.{choose, combos, deck}
 use Rattle.vp_sets.specs.Draws.{common, discarded, draws, scale, sum_over_draws}
-use Rattle.vp_sets.proofs.Decks.{deck-suc, length-deck}
+use Rattle.vp_sets.proofs.Decks.{length-deck}
 use Rattle.vp_sets.proofs.Denominators.{scale_exact}
 use Rattle.vp_sets.proofs.Holds.{Dealt, length-draws, length-held}
 use Rattle.vp_sets.proofs.Sublists.{length-combos, sum_by-plus}
+use Rattle.vp_sets.proofs.Sums.{exchanged, last_place, no_place, sum_const, sum_none, sum_of_times, sum_same, sum_times}
 use Rattle.vp_suit.specs.Classes.{representative}
 use Rattle.vp_suit.proofs.ClassLaws.{representative_deal}
 use Rattle.vp_suit.proofs.TurnedDraws.{dealt_is}
@@ -28,49 +27,7 @@ use Rattle.vp_hits.specs.Hits.{chance, hit, is_asked, often, payments, printed_c
 use Rattle.vp_hits.specs.Hits.{hits as line_hits}
 use Rattle.vp_hits.specs.Laws.{LinesMakeTheReturn, LinesShareOutDraws, over_lines}
 use Rattle.vp_hits.proofs.Chances.{inside, nothing}
-use Rattle.vp_hits.proofs.Weighed.{deals_agree}
-
--- ---- sums
-
-sum_same : {A : Type 0} (f g : A → ℕ) (xs : List A) → ((x : A) → f x ≡ g x) → sum_by f xs ≡ sum_by g xs
-sum_same {A = A} f g xs e = ap (λ (h : A → ℕ). sum_by h xs) (fun_ext e)
-
-sum_times : {A : Type 0} (k : ℕ) (f : A → ℕ) (xs : List A) → k * sum_by f xs ≡ sum_by (λ x. k * f x) xs
-sum_times k f [] = omega arith
-sum_times k f (x ∷ xs) =
-    ap (λ n. k * n) (sum_by-cons f x xs) ∙ spread k (f x) (sum_by f xs) ∙ ap (λ n. k * f x + n) (sum_times k f xs) ∙ sym (sum_by-cons (λ x. k * f x) x xs)
-  where
-    spread : (k a b : ℕ) → k * (a + b) ≡ k * a + k * b
-    spread k a b = omega arith
-
-sum_of_times : {A : Type 0} (f : A → ℕ) (k : ℕ) (xs : List A) → sum_by (λ x. f x * k) xs ≡ sum_by f xs * k
-sum_of_times f k xs = sum_same (λ x. f x * k) (λ x. k * f x) xs (λ x. mul_comm (f x) k) ∙ sym (sum_times k f xs) ∙ mul_comm k (sum_by f xs)
-
-sum_const : {A : Type 0} (k : ℕ) (xs : List A) → sum_by (λ x. k) xs ≡ length xs * k
-sum_const k [] = omega arith
-sum_const k (x ∷ xs) = sum_by-cons (λ y. k) x xs ∙ ap (λ n. k + n) (sum_const k xs) ∙ one_more k (length xs)
-  where
-    one_more : (k n : ℕ) → k + n * k ≡ suc n * k
-    one_more k n = omega arith
-
-sum_none : {A : Type 0} (xs : List A) → sum_by (λ x. 0) xs ≡ 0
-sum_none xs = let e : sum_by (λ x. 0) xs ≡ length xs * 0 = sum_const 0 xs in omega arith
-
--- sums over the places of the lines, and over a list
-last_place : (f : ℕ → ℕ) (m : ℕ) → sum_by f (deck (suc m)) ≡ sum_by f (deck m) + f m
-last_place f m = ap (sum_by f) (deck-suc m) ∙ sum_by_push f (deck m) m
-
-no_place : (f : ℕ → ℕ) → sum_by f (deck 0) ≡ 0
-unfolding deck
-no_place f = refl
-
-exchanged : {A : Type 0} (h : ℕ → A → ℕ) (m : ℕ) (xs : List A) → sum_by (λ i. sum_by (h i) xs) (deck m) ≡ sum_by (λ x. sum_by (λ i. h i x) (deck m)) xs
-exchanged h zero xs = no_place (λ i. sum_by (h i) xs) ∙ sym (sum_same (λ x. sum_by (λ i. h i x) (deck 0)) (λ x. 0) xs (λ x. no_place (λ i. h i x)) ∙ sum_none xs)
-exchanged h (suc m) xs =
-    last_place (λ i. sum_by (h i) xs) m
-    ∙ ap (λ n. n + sum_by (h m) xs) (exchanged h m xs)
-    ∙ sym (sum_by-plus (λ x. sum_by (λ i. h i x) (deck m)) (h m) xs)
-    ∙ sum_same (λ x. sum_by (λ i. h i x) (deck m) + h m x) (λ x. sum_by (λ i. h i x) (deck (suc m))) xs (λ x. sym (last_place (λ i. h i x) m))
+use Rattle.vp_suit.proofs.Weighed.{deals_agree}
 
 -- ---- the lines of one hand
 

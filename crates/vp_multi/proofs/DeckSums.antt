@@ -1,7 +1,7 @@
 -- Sums over all deals: what they are made of, and that they fit.
-use Rattle.std.proofs.Common.{◌≡◌, ℕ, zero, suc, ◌+◌, ◌-◌, ◌*◌, ◌^◌, ◌<◌, ◌≤◌, List, [], ◌∷◌, length, ap, sym, subst, ◌∙◌, arith, refl, inl, inr, lit≤, lit<}
+use Rattle.std.proofs.Common.{◌≡◌, ℕ, ◌+◌, ◌-◌, ◌*◌, ◌^◌, ◌<◌, ◌≤◌, List, [], ◌∷◌, length, ap, sym, subst, ◌∙◌, arith}
 use Rattle.std.specs.Prelude.{sum_by}
-use Rattle.std.proofs.Math.Nat.{mul-le-mul_left, mul-le-mul_right, mul-suc}
+use Rattle.std.proofs.Math.Nat.{mul-le-mul_left, mul-le-mul_right}
 use Rattle.std.proofs.lemmas.List.Sums.{sum_by-cons}
 use Rattle.vp_card.specs.Cards.{IsDeck}
 use Rattle.vp_pay.specs.declared.table.PayTable.{PayTable}
@@ -11,12 +11,12 @@ use Rattle.vp_sets.specs.Draws.{common}
 use Rattle.vp_sets.proofs.Decks.{length-deck}
 use Rattle.vp_sets.proofs.Denominators.{common_small}
 use Rattle.vp_sets.proofs.Pascal.{ways_are}
-use Rattle.vp_sets.proofs.Sublists.{length-combos}
+use Rattle.vp_sets.proofs.Sublists.{length-combos, sum_by-plus}
+use Rattle.vp_sets.proofs.Sums.{sum_of_times, sum_times}
 use Rattle.vp_suit.specs.Classes.{representative}
-use Rattle.vp_suit.proofs.Below.{below, below-zero, below-suc}
-use Rattle.vp_suit.proofs.Deals.{deal, deal_is, sum_of_deals}
 use Rattle.vp_suit.proofs.ClassLaws.{representative_deal}
 use Rattle.vp_suit.proofs.TurnedDraws.{dealt_is}
+use Rattle.vp_suit.proofs.Weighed.{deals_agree, deals_le}
 use Rattle.vp_draws.specs.Draws.{best, least_best, sum_of_best}
 use Rattle.vp_draws.proofs.Bounds.{best_small, room}
 use Rattle.vp_draws.proofs.Values.{value2_small}
@@ -27,13 +27,6 @@ use Rattle.vp_multi.proofs.Squares.{square_of_sum}
 use Rattle.vp_multi.proofs.DealMoments.{within_fits}
 
 -- ---- sums over lists
-
-sum_times : {A : Type 0} (f : A → ℕ) (k : ℕ) (xs : List A) → sum_by (λ x. k * f x) xs ≡ k * sum_by f xs
-sum_times f k [] = omega arith
-sum_times f k (x ∷ xs) = sum_by-cons (λ x. k * f x) x xs ∙ ap (λ n. k * f x + n) (sum_times f k xs) ∙ gather k (f x) (sum_by f xs) ∙ ap (λ n. k * n) (sym (sum_by-cons f x xs))
-  where
-    gather : (k a b : ℕ) → k * a + k * b ≡ k * (a + b)
-    gather k a b = omega arith
 
 sum_two : {A : Type 0} (f g : A → ℕ) (k l j : ℕ) (xs : List A) → sum_by (λ x. k * f x * l + j * g x) xs ≡ k * sum_by f xs * l + j * sum_by g xs
 sum_two f g k l j [] = omega arith
@@ -47,44 +40,29 @@ sum_two f g k l j (x ∷ xs) =
     gather : (k l j a s b t : ℕ) → k * a * l + j * b + (k * s * l + j * t) ≡ k * (a + s) * l + j * (b + t)
     gather k l j a s b t = omega arith
 
--- ---- sums over the numbers below a bound
-
-below_le : (x : ℕ → ℕ) (m n : ℕ) → ((i : ℕ) → i < n → x i ≤ m) → below x n ≤ m * n
-below_le x m zero h = omega (arith, below-zero x)
-below_le x m (suc n) h = omega (arith, below-suc x n, below_le x m n (λ i l. h i (omega arith)), h n (omega arith), mul-suc m n)
-
-below_less : (f g : ℕ → ℕ) (l n : ℕ) → ((i : ℕ) → i < n → g i ≤ f i * l) → below (λ i. f i * l - g i) n + below g n ≡ below f n * l
-below_less f g l zero h = omega (arith, below-zero f, below-zero g, below-zero (λ i. f i * l - g i), ap (λ k. k * l) (below-zero f))
-below_less f g l (suc n) h =
-    let last : g n ≤ f n * l = h n (omega arith) in
-    let split : below f (suc n) * l ≡ below f n * l + f n * l = ap (λ k. k * l) (below-suc f n) ∙ add_mul (below f n) (f n) l in
-    omega (arith, below-suc g n, below-suc (λ i. f i * l - g i) n, below_less f g l n (λ i m. h i (omega arith)))
-  where
-    add_mul : (a b l : ℕ) → (a + b) * l ≡ a * l + b * l
-    add_mul a b l = omega arith
-
 -- ---- what the moments are made of
 
 pub mean_is : (table : PayTable) (coin k : ℕ) → mean_sum table coin k ≡ k * sum_of_best table coin
 unfolding mean_sum first_moment sum_of_best
-mean_is table coin k = sum_times (best table coin) k (deals table.deck)
+mean_is table coin k = sym (sum_times k (best table coin) (deals table.deck))
 
 pub second_is : (table : PayTable) (coin k : ℕ) → second_sum table coin k ≡ k * sum_by (printed_square table coin) (deals table.deck) * common table.deck + k * (k - 1) * sum_by (squared_value table coin) (deals table.deck)
 unfolding second_sum second_moment
 second_is table coin k = sum_two (printed_square table coin) (squared_value table coin) k (common table.deck) (k * (k - 1)) (deals table.deck)
 
+parts_of_one : (table : PayTable) (coin : ℕ) (cards : List ℕ) → squared_value table coin cards ≤ printed_square table coin cards * common table.deck
+    → variance_within table coin cards + squared_value table coin cards ≡ printed_square table coin cards * common table.deck
+unfolding variance_within
+parts_of_one table coin cards le = omega (arith, le)
+
 pub within_is : (table : PayTable) (coin : ℕ) → IsTable table
     → within_sum table coin + sum_by (squared_value table coin) (deals table.deck) ≡ sum_by (printed_square table coin) (deals table.deck) * common table.deck
-unfolding within_sum variance_within
+unfolding within_sum
 within_is table coin t =
-    let n : ℕ = table.deck in
-    let l : ℕ = common n in
-    let sum : below (λ i. printed_square table coin (deal n i) * l - squared_value table coin (deal n i)) (choose n 5) + below (λ i. squared_value table coin (deal n i)) (choose n 5) ≡ below (λ i. printed_square table coin (deal n i)) (choose n 5) * l =
-    below_less (λ i. printed_square table coin (deal n i)) (λ i. squared_value table coin (deal n i)) l (choose n 5) (λ i m. within_fits table coin (deal n i) t (deal_is n i m).0) in
-    let a = sum_of_deals n (λ cards. printed_square table coin cards * common n - squared_value table coin cards) in
-    let b = sum_of_deals n (squared_value table coin) in
-    let c = ap (λ s. s * l) (sum_of_deals n (printed_square table coin)) in
-    omega (arith, a, b, c, sum)
+    sym (sum_by-plus (variance_within table coin) (squared_value table coin) (deals table.deck))
+    ∙ deals_agree table.deck (λ cards. variance_within table coin cards + squared_value table coin cards) (λ cards. printed_square table coin cards * common table.deck)
+    (λ cards d. parts_of_one table coin cards (within_fits table coin cards t d))
+    ∙ sum_of_times (printed_square table coin) (common table.deck) (deals table.deck)
 
 pub between_fits : (table : PayTable) (coin : ℕ) → sum_of_best table coin * sum_of_best table coin ≤ choose table.deck 5 * sum_by (squared_value table coin) (deals table.deck)
 unfolding sum_of_best squared_value
@@ -114,11 +92,8 @@ pub record TheyFit (n s q : ℕ) : Type 0 where
 squares_le : (table : PayTable) (coin : ℕ) → IsTable table → sum_by (printed_square table coin) (deals table.deck) ≤ 250000000000 * common table.deck * choose table.deck 5
 unfolding printed_square
 squares_le table coin t =
-    let n : ℕ = table.deck in
-    let bound : below (λ i. printed_square table coin (deal n i)) (choose n 5) ≤ 250000000000 * common n * choose n 5 =
-    below_le (λ i. printed_square table coin (deal n i)) (250000000000 * common n) (choose n 5) (λ i l.
-    value2_small table coin (representative (deal n i)) (least_best table coin (representative (deal n i))) t (dealt_is n (representative (deal n i)) (representative_deal n (deal n i) t.known_deck.0 (deal_is n i l).0))) in
-    omega (arith, sum_of_deals n (printed_square table coin), bound)
+    deals_le table.deck (250000000000 * common table.deck) (printed_square table coin) (λ cards d.
+    value2_small table coin (representative cards) (least_best table coin (representative cards)) t (dealt_is table.deck (representative cards) (representative_deal table.deck cards t.known_deck.0 d)))
 
 square_le : (b m : ℕ) → b ≤ m → b * b ≤ m * m
 square_le b m l =
@@ -129,11 +104,8 @@ square_le b m l =
 squared_le : (table : PayTable) (coin : ℕ) → IsTable table → sum_by (squared_value table coin) (deals table.deck) ≤ 500000 * common table.deck * (500000 * common table.deck) * choose table.deck 5
 unfolding squared_value
 squared_le table coin t =
-    let n : ℕ = table.deck in
-    let bound : below (λ i. squared_value table coin (deal n i)) (choose n 5) ≤ 500000 * common n * (500000 * common n) * choose n 5 =
-    below_le (λ i. squared_value table coin (deal n i)) (500000 * common n * (500000 * common n)) (choose n 5) (λ i l.
-    square_le (best table coin (deal n i)) (500000 * common n) (best_small table coin (deal n i) t (dealt_is n (deal n i) (deal_is n i l).0))) in
-    omega (arith, sum_of_deals n (squared_value table coin), bound)
+    deals_le table.deck (500000 * common table.deck * (500000 * common table.deck)) (squared_value table coin) (λ cards d.
+    square_le (best table coin cards) (500000 * common table.deck) (best_small table coin cards t (dealt_is table.deck cards d)))
 
 pub they_fit : (table : PayTable) (coin : ℕ) → IsTable table → TheyFit (choose table.deck 5) (sum_by (printed_square table coin) (deals table.deck)) (sum_by (squared_value table coin) (deals table.deck))
 they_fit table coin t = fit (common table.deck) (choose table.deck 5) _ _ (common_small table.deck t.known_deck) (room table.deck t.known_deck) (squares_le table coin t) (squared_le table coin t)

@@ -1,9 +1,9 @@
 -- The printed holds of a deal are alike: they have the value and the mean square of the representative's least best hold.
-use Rattle.std.proofs.Common.{◌≡◌, ℕ, true, ◌*◌, ◌≤◌, List, ap, sym}
+use Rattle.std.proofs.Common.{◌≡◌, ℕ, ◌*◌, ◌≤◌, List, ap, sym}
 use Rattle.vp_pay.specs.declared.table.PayTable.{PayTable}
 use Rattle.vp_pay.specs.Table.{IsTable}
-use Rattle.vp_suit.specs.Classes.{IsDeal, IsKept, is_representative}
-use Rattle.vp_suit.proofs.ClassLaws.{representative_kept, representative_own}
+use Rattle.vp_suit.specs.Classes.{IsDeal, IsKept, representative}
+use Rattle.vp_suit.proofs.ClassLaws.{representative_kept}
 use Rattle.vp_draws.specs.Draws.{IsPrintedHold, best, least_best, value, value2}
 use Rattle.vp_draws.proofs.Printed.{at_printed, printed_best}
 use Rattle.vp_draws.proofs.TurnedValues.{value2_turned, best_turned}
@@ -27,6 +27,6 @@ unfolding squared_value
 squared_value_kept table coin big t cards l d = ap (λ b. b * b) (best_turned t coin table cards big l d)
 
 -- at a representative
-pub own_square : (table : PayTable) (coin : ℕ) (cards : List ℕ) → 52 ≤ table.deck → IsDeal table.deck cards → is_representative cards ≡ true → value2 table coin cards (least_best table coin cards) ≡ printed_square table coin cards
+pub own_square : (table : PayTable) (coin : ℕ) (cards : List ℕ) → representative cards ≡ cards → value2 table coin cards (least_best table coin cards) ≡ printed_square table coin cards
 unfolding printed_square
-own_square table coin cards big d stands = ap (λ (r : List ℕ). value2 table coin r (least_best table coin r)) (sym (representative_own table.deck cards big d stands))
+own_square table coin cards own = ap (λ (r : List ℕ). value2 table coin r (least_best table coin r)) (sym own)

@@ -10,3 +10,4 @@ pub mod Colex
 pub mod Walk
 pub mod Pascal
 pub mod FiveCards
+pub mod Sums

@@ -18,3 +18,4 @@ pub mod Order
 pub mod CarriedBack
 pub mod CardHeaps
 pub mod Runs
+pub mod Weighed

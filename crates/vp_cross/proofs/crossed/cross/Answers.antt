@@ -73,6 +73,15 @@ loop-class-preserved c =
     c.count.ensures.deals
     c.count.ensures.worst
 
+pub returns-clause-optimum : goal.returns-clause-optimum
+returns-clause-optimum c = (tallied_all _ _ _ _ _ _ _ _ _ c.in_default.ensures.end c.loop-class.invariant).best
+
+pub returns-clause-value : goal.returns-clause-value
+returns-clause-value c = (tallied_all _ _ _ _ _ _ _ _ _ c.in_default.ensures.end c.loop-class.invariant).value
+
+pub returns-clause-deals : goal.returns-clause-deals
+returns-clause-deals c = (tallied_all _ _ _ _ _ _ _ _ _ c.in_default.ensures.end c.loop-class.invariant).dealt
+
 pub returns-clause-most : goal.returns-clause-most
 returns-clause-most c =
     let all = tallied_all _ _ _ _ _ _ _ _ _ c.in_default.ensures.end c.loop-class.invariant in

@@ -2,10 +2,11 @@ use Rattle.std.proofs.Common.{◌≡◌, ◌+◌, ◌*◌, ◌∙◌, ap, arith}
 use Rattle.vp_pay.specs.declared.table.PayTable.{PayTable}
 use Rattle.vp_suit.specs.Classes.{representatives, weight}
 use Rattle.vp_draws.specs.Draws.{best}
-use Rattle.vp_draws.proofs.TurnedValues.{best_kept}
+use Rattle.vp_draws.proofs.Bounds.{best_sum_fits}
+use Rattle.vp_draws.proofs.TurnedValues.{best_kept, best_sum_is}
 use Rattle.vp_hits.proofs.Masks.{masks_more, masks_start}
-use Rattle.vp_hits.proofs.Printed.{best_fits_in, best_sum_is, weighed_chance}
-use Rattle.vp_hits.proofs.Weighed.{added_all, added_fits, added_more, added_none, next_hand}
+use Rattle.vp_hits.proofs.Printed.{weighed_chance}
+use Rattle.vp_suit.proofs.Weighed.{added_all, added_fits, added_more, added_none, next_hand}
 use Rattle.vp_hits.proofs.printed_holds.write_masks.Goals as goal
 
 pub loop-class-init : goal.loop-class-init
@@ -23,13 +24,13 @@ pub overflow_mul-sum : goal.overflow_mul-sum
 overflow_mul-sum c =
     let more : c.from-in-Some.result * c.best-best.result.value ≡ weight c.in-Some.class.hand * best c.args.game.now.table c.args.game.now.coin c.in-Some.class.hand =
     weighed_chance (c.from-in-Some.ensures ∙ c.in-Some.ensures.weight) c.best-best.ensures.best in
-    omega (arith, more, added_fits _ _ c.in-Some.class.hand _ _ c.in-Some.ensures.given _ c.loop-class.invariant.sum, best_fits_in c.args.game.now.table c.args.game.now.coin c.table.ensures.rules)
+    omega (arith, more, added_fits _ _ c.in-Some.class.hand _ _ c.in-Some.ensures.given _ c.loop-class.invariant.sum, best_sum_fits c.args.game.now.table c.args.game.now.coin c.table.ensures.rules)
 
 pub overflow_add-sum : goal.overflow_add-sum
 overflow_add-sum c =
     let more : c.from-in-Some.result * c.best-best.result.value ≡ weight c.in-Some.class.hand * best c.args.game.now.table c.args.game.now.coin c.in-Some.class.hand =
     weighed_chance (c.from-in-Some.ensures ∙ c.in-Some.ensures.weight) c.best-best.ensures.best in
-    omega (arith, more, added_fits _ _ c.in-Some.class.hand _ _ c.in-Some.ensures.given _ c.loop-class.invariant.sum, best_fits_in c.args.game.now.table c.args.game.now.coin c.table.ensures.rules)
+    omega (arith, more, added_fits _ _ c.in-Some.class.hand _ _ c.in-Some.ensures.given _ c.loop-class.invariant.sum, best_sum_fits c.args.game.now.table c.args.game.now.coin c.table.ensures.rules)
 
 pub loop-class-preserved : goal.loop-class-preserved
 loop-class-preserved c =

@@ -2,7 +2,7 @@
 use Rattle.std.proofs.Common.{length}
 use Rattle.vp_draws.specs.Draws.{best}
 use Rattle.vp_hits.proofs.Masks.{MasksBelow}
-use Rattle.vp_hits.proofs.Weighed.{Added}
+use Rattle.vp_suit.proofs.Weighed.{Added}
 use Rattle.vp_hits.proofs.printed_holds.write_masks.Given as goal
 
 abbrev pub invariant-loop-class : goal.invariant-loop-class

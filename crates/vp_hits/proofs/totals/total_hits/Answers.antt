@@ -4,7 +4,7 @@ use Rattle.vp_pay.specs.declared.table.PayTable.{PayTable}
 use Rattle.vp_suit.specs.Classes.{representatives, weight}
 use Rattle.vp_hits.specs.Hits.{chance, printed_chance}
 use Rattle.vp_hits.proofs.Printed.{often_fits, often_is, own_chance, printed_kept, weighed_chance}
-use Rattle.vp_hits.proofs.Weighed.{added_all, added_fits, added_more, added_none, next_hand, next_own}
+use Rattle.vp_suit.proofs.Weighed.{added_all, added_fits, added_more, added_none, next_hand, next_own}
 use Rattle.vp_hits.proofs.totals.total_hits.Goals as goal
 
 pub loop-class-init : goal.loop-class-init

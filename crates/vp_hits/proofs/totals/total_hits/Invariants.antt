@@ -1,7 +1,7 @@
 -- The classes so far were added up.
 use Rattle.std.proofs.Common.{length}
 use Rattle.vp_hits.specs.Hits.{printed_chance}
-use Rattle.vp_hits.proofs.Weighed.{Added}
+use Rattle.vp_suit.proofs.Weighed.{Added}
 use Rattle.vp_hits.proofs.totals.total_hits.Given as goal
 
 abbrev pub invariant-loop-class : goal.invariant-loop-class

@@ -5,18 +5,18 @@ use Rattle.vp_wild.specs.Kept.{Bet}
 use Rattle.vp_suit.specs.Classes.{representatives, weight}
 use Rattle.vp_draws.specs.Draws.{best, least_best, value2}
 use Rattle.vp_multi.specs.Sums.{printed_square, squared_value}
-use Rattle.vp_multi.proofs.ByClasses.{added_none, next_hand, next_square, added_more, values_fit, squares_fit, squared_fit, added_all, value_weighed, square_weighed, squared_weighed}
+use Rattle.vp_multi.proofs.ByClasses.{powers_none, powers_hand, powers_square, powers_more, values_fit, squares_fit, squared_fit, powers_all, value_weighed, square_weighed, squared_weighed}
 use Rattle.vp_multi.proofs.several_hands.power_sums.Goals as goal
 
 pub loop-class-init : goal.loop-class-init
-loop-class-init c = added_none c.args.game.now.table c.args.game.now.coin c.new-classes.result c.table.ensures.rules (c.new-classes.ensures ∙ ap (λ (t : PayTable). representatives t.deck) c.table.ensures.table)
+loop-class-init c = powers_none c.args.game.now.table c.args.game.now.coin c.new-classes.result c.table.ensures.rules (c.new-classes.ensures ∙ ap (λ (t : PayTable). representatives t.deck) c.table.ensures.table)
 
 pub best-best-requires : goal.best-best-requires
-best-best-requires c = record { cards = next_hand _ _ c.in-Some.class.hand _ _ c.in-Some.ensures.given _ _ _ c.loop-class.invariant }
+best-best-requires c = record { cards = powers_hand _ _ c.in-Some.class.hand _ _ c.in-Some.ensures.given _ _ _ c.loop-class.invariant }
 
 pub value-square-requires-clause-cards : goal.value-square-requires-clause-cards
 value-square-requires-clause-cards c =
-    ap (λ (b : Bet). in_deck b.table.deck c.in-Some.class.hand) c.requires.same ∙ next_hand _ _ c.in-Some.class.hand _ _ c.in-Some.ensures.given _ _ _ c.loop-class.invariant
+    ap (λ (b : Bet). in_deck b.table.deck c.in-Some.class.hand) c.requires.same ∙ powers_hand _ _ c.in-Some.class.hand _ _ c.in-Some.ensures.given _ _ _ c.loop-class.invariant
 
 pub overflow_add-sums : goal.overflow_add-sums
 overflow_add-sums c =
@@ -28,7 +28,7 @@ overflow_add-sums-in-Some c =
     (square_weighed _ _ _ _ _ (c.from-weight.ensures ∙ c.in-Some.ensures.weight)
     (c.from.ensures ∙ c.value-square.ensures ∙ ap (λ (b : Bet). value2 b.table b.coin c.in-Some.class.hand c.best-best.result.mask) c.requires.same
     ∙ ap (value2 c.args.game.now.table c.args.game.now.coin c.in-Some.class.hand) c.best-best.ensures.least_best
-    ∙ next_square _ _ c.in-Some.class.hand _ _ c.in-Some.ensures.given _ _ _ c.table.ensures.rules c.loop-class.invariant)) in
+    ∙ powers_square _ _ c.in-Some.class.hand _ _ c.in-Some.ensures.given _ _ _ c.table.ensures.rules c.loop-class.invariant)) in
     omega (arith, square_is, squares_fit _ _ c.in-Some.class.hand _ _ c.in-Some.ensures.given _ _ _ c.table.ensures.rules c.loop-class.invariant)
 
 pub overflow_mul-sums-in-Some-3 : goal.overflow_mul-sums-in-Some-3
@@ -51,7 +51,10 @@ loop-class-preserved c =
     (square_weighed _ _ _ _ _ (c.from-weight.ensures ∙ c.in-Some.ensures.weight)
     (c.from.ensures ∙ c.value-square.ensures ∙ ap (λ (b : Bet). value2 b.table b.coin c.in-Some.class.hand c.best-best.result.mask) c.requires.same
     ∙ ap (value2 c.args.game.now.table c.args.game.now.coin c.in-Some.class.hand) c.best-best.ensures.least_best
-    ∙ next_square _ _ c.in-Some.class.hand _ _ c.in-Some.ensures.given _ _ _ c.table.ensures.rules c.loop-class.invariant)) in
+    ∙ powers_square _ _ c.in-Some.class.hand _ _ c.in-Some.ensures.given _ _ _ c.table.ensures.rules c.loop-class.invariant)) in
     let squared_is : c.from-weight.result * (c.from-value.result * c.from-value.result) ≡ weight c.in-Some.class.hand * squared_value c.args.game.now.table c.args.game.now.coin c.in-Some.class.hand =
     (squared_weighed _ _ _ _ _ (c.from-weight.ensures ∙ c.in-Some.ensures.weight) (c.from-value.ensures ∙ c.best-best.ensures.best)) in
-    added_more _ _ c.in-Some.class.hand _ _ c.in-Some.ensures.given _ _ _ _ _ _ (ap (λ x. c.loop-class.sums.values + x) value_is) (ap (λ x. c.loop-class.sums.squares + x) square_is) (ap (λ x. c.loop-class.sums.squared_values + x) squared_is) c.loop-class.invariant
+    powers_more _ _ c.in-Some.class.hand _ _ c.in-Some.ensures.given _ _ _ _ _ _ (ap (λ x. c.loop-class.sums.values + x) value_is) (ap (λ x. c.loop-class.sums.squares + x) square_is) (ap (λ x. c.loop-class.sums.squared_values + x) squared_is) c.loop-class.invariant
+
+pub returns : goal.returns
+returns c = powers_all _ _ _ _ _ _ c.in_default.ensures.end c.loop-class.invariant

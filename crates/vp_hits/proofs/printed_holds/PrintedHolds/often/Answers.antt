@@ -7,7 +7,7 @@ use Rattle.vp_hits.specs.Hits.{chance, often, printed_chance}
 use Rattle.vp_hits.specs.Numbers.{AskedTwo, IsPrinted, Printed}
 use Rattle.vp_hits.proofs.Masks.{mask_small, of_printed, printed_mask, read_more, read_start}
 use Rattle.vp_hits.proofs.Printed.{often_fits, often_is, own_chance, printed_kept, weighed_chance}
-use Rattle.vp_hits.proofs.Weighed.{added_all, added_fits, added_more, added_none, next_hand, next_own}
+use Rattle.vp_suit.proofs.Weighed.{added_all, added_fits, added_more, added_none, next_hand, next_own}
 use Rattle.vp_hits.proofs.printed_holds.PrintedHolds.often.Goals as goal
 
 pub loop-class-init : goal.loop-class-init

@@ -2,7 +2,7 @@
 use Rattle.std.proofs.Common.{length}
 use Rattle.vp_hits.specs.Hits.{printed_chance}
 use Rattle.vp_hits.proofs.Masks.{MasksFrom}
-use Rattle.vp_hits.proofs.Weighed.{Added}
+use Rattle.vp_suit.proofs.Weighed.{Added}
 use Rattle.vp_hits.proofs.printed_holds.PrintedHolds.often.Given as goal
 
 abbrev pub invariant-loop-class : goal.invariant-loop-class

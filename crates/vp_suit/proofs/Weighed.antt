@@ -1,16 +1,19 @@
--- A number that all deals of a class have alike, summed over the classes: what was added up, and what is left of them.
-use Rattle.std.proofs.Common.{◌≡◌, ℕ, zero, suc, true, ◌+◌, ◌*◌, ◌<◌, ◌≤◌, List, [], ◌∷◌, ap, subst, ◌∙◌, arith}
+-- Sums over all deals, and a number that all deals of a class have alike, summed over the classes: what was added up, and what is
+-- left of them.
+use Rattle.std.proofs.Common.{◌≡◌, ℕ, zero, suc, true, ◌+◌, ◌*◌, ◌<◌, ◌≤◌, List, [], ◌∷◌, refl, ap, sym, subst, ◌∙◌, arith, inl, inr}
 use Rattle.std.specs.List.{All}
 use Rattle.std.specs.Prelude.{sum_by}
 use Rattle.std.proofs.Math.Nat.{mul-suc}
+use Rattle.std.proofs.lemmas.Bool.{cases_lt}
 use Rattle.std.proofs.lemmas.List.Sums.{sum_by-cons}
-use Rattle.std.proofs.lemmas.List.Elements.{All-head, All-rest, All-same}
+use Rattle.std.proofs.lemmas.List.Elements.{All-head, All-rest, All-same, All-tail}
 use Rattle.vp_card.specs.Cards.{IsDeck, in_deck}
+use Rattle.vp_sets.specs.Index.{set_index}
 use Rattle.vp_sets.specs.Sets.{choose, combos, deck}
 use Rattle.vp_suit.specs.Classes.{IsDeal, IsKept, is_representative, representative, representatives, weight}
-use Rattle.vp_suit.proofs.Below.{below, below-zero, below-suc, below-same}
+use Rattle.vp_suit.proofs.Below.{below, below-zero, below-suc, below-same, below-none}
 use Rattle.vp_suit.proofs.ClassLaws.{representative_own, representatives_only}
-use Rattle.vp_suit.proofs.Deals.{deal, deal_is, sum_by_classes, sum_of_deals}
+use Rattle.vp_suit.proofs.Deals.{deal, deal_at, deal_is, index_small, sum_by_classes, sum_of_deals}
 use Rattle.vp_suit.proofs.TurnedDraws.{dealt_is}
 
 -- ---- sums over all deals
@@ -35,6 +38,23 @@ deals_le n m f small =
     let whole = sum_of_deals n f in
     omega arith
 
+each_none : (x : ℕ → ℕ) (n i : ℕ) → below x n ≡ 0 → i < n → x i ≡ 0
+each_none x zero i e l = absurd (omega arith)
+each_none x (suc n) i e l =
+    let s = below-suc x n in
+    elim (cases_lt i n) [
+      | inl m ↦ each_none x n i (omega (arith, s, e)) m
+      | inr m ↦ let q : i ≡ n = omega arith in ap x q ∙ omega (arith, s, e)
+    ]
+
+-- the sum over all deals of a number is 0 exactly where each deal's is
+pub each_deal_none : (n : ℕ) (f : List ℕ → ℕ) → sum_by f (combos 5 (deck n)) ≡ 0 → (cards : List ℕ) → IsDeal n cards → f cards ≡ 0
+each_deal_none n f e cards d =
+    sym (ap f (deal_at n cards d)) ∙ each_none (λ i. f (deal n i)) (choose n 5) (set_index cards) (omega (arith, sum_of_deals n f, e)) (index_small n cards d)
+
+pub deals_none : (n : ℕ) (f : List ℕ → ℕ) → ((cards : List ℕ) → IsDeal n cards → f cards ≡ 0) → sum_by f (combos 5 (deck n)) ≡ 0
+deals_none n f h = sum_of_deals n f ∙ below-none (λ i. f (deal n i)) (choose n 5) (λ i l. h (deal n i) (deal_is n i l).0)
+
 -- ---- class by class
 
 -- weight times f, over some classes
@@ -42,8 +62,19 @@ abbrev pub weighed : (List ℕ → ℕ) → List (List ℕ) → ℕ
 weighed f classes = sum_by (λ cards. weight cards * f cards) classes
 
 -- the representative of a class of deals
-abbrev IsClass : ℕ → List ℕ → Type 0
+abbrev pub IsClass : ℕ → List ℕ → Type 0
 IsClass n cards = IsDeal n cards × (is_representative cards ≡ true)
+
+-- what each class has, its weight times what f gives, sums to what f gives for all deals
+pub by_classes : (n : ℕ) (f g : List ℕ → ℕ) → 52 ≤ n → IsKept n f → ((cards : List ℕ) → IsClass n cards → g cards ≡ weight cards * f cards) → sum_by g (representatives n) ≡ sum_by f (combos 5 (deck n))
+by_classes n f g big kept is = same_on (representatives n) (representatives_only n) ∙ sum_by_classes n big f kept
+  where
+    same_on : (classes : List (List ℕ)) → All (IsClass n) classes → sum_by g classes ≡ weighed f classes
+    same_on [] all = refl
+    same_on (cards ∷ more) all =
+        let here : g cards ≡ weight cards * f cards = is cards (All-head (IsClass n) cards more all) in
+        let there : sum_by g more ≡ weighed f more = same_on more (All-tail (IsClass n) cards more all) in
+        omega (arith, sum_by-cons g cards more, sum_by-cons (λ x. weight x * f x) cards more)
 
 -- all classes but those that are left
 pub record Added (n : ℕ) (f : List ℕ → ℕ) (left : List (List ℕ)) (sum : ℕ) : Type 0 where
