@@ -17,8 +17,8 @@ use Rattle.vp_draws.proofs.Values.{value_is, value_le}
 use Rattle.vp_rule.specs.Holds.{matches}
 use Rattle.vp_rule.specs.declared.rule.Rule.{Rule}
 use Rattle.vp_compile.specs.Matrices.{rows_of}
-use Rattle.vp_compile.specs.Rows.{IsCell, IsRow, Row}
-use Rattle.vp_audit.specs.Choices.{empty, least_or_empty}
+use Rattle.vp_compile.specs.Rows.{IsCell, IsRow, Row, empty}
+use Rattle.vp_audit.specs.Choices.{least_or_empty}
 use Rattle.vp_audit.specs.Compiled.{class_at, class_row, pool_rows, rule_cell}
 use Rattle.vp_audit.specs.Values.{matched}
 use Rattle.vp_audit.proofs.Charges.{least_members}

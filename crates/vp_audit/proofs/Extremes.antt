@@ -10,8 +10,9 @@ use Rattle.vp_pay.specs.declared.table.PayTable.{PayTable}
 use Rattle.vp_draws.specs.Draws.{best, greatest, masks, value}
 use Rattle.vp_rule.specs.Holds.{matches}
 use Rattle.vp_rule.specs.declared.rule.Rule.{Rule}
+use Rattle.vp_compile.specs.Rows.{empty}
 use Rattle.vp_audit.specs.Values.{least, matched}
-use Rattle.vp_audit.specs.Choices.{BetHand, empty, greatest_matched, least_matched, least_or_empty, widened}
+use Rattle.vp_audit.specs.Choices.{BetHand, greatest_matched, least_matched, least_or_empty, widened}
 
 range_after : (a n : ℕ) → range_with_len a (n + 1) ≡ range_with_len a n ++ (a + n) ∷ []
 range_after a zero = ap (λ (x : ℕ). x ∷ []) (let e : a ≡ a + 0 = omega arith in e)

@@ -10,8 +10,8 @@ use Rattle.vp_pay.specs.declared.table.PayTable.{PayTable}
 use Rattle.vp_draws.specs.Draws.{masks, value}
 use Rattle.vp_rule.specs.Holds.{matches}
 use Rattle.vp_rule.specs.declared.rule.Rule.{Rule}
-use Rattle.vp_compile.specs.Rows.{full_or, list_value}
-use Rattle.vp_audit.specs.Choices.{empty, least_or_empty}
+use Rattle.vp_compile.specs.Rows.{empty, full_or, list_value}
+use Rattle.vp_audit.specs.Choices.{least_or_empty}
 use Rattle.vp_audit.specs.Compiled.{class_row, ordered, rule_cell}
 use Rattle.vp_audit.specs.Values.{charged, deciding, least, matched, no_rule}
 use Rattle.vp_audit.proofs.Decisions.{any_filter}

@@ -1,4 +1,5 @@
--- What a list loses against the best holds, over all deals.
+-- What a list loses against the best holds, over all deals: differences and sums of expected payments (vp_draws, Draws). Which numbers an
+-- audit tells is this program's own choice (docs/FORMATS.md).
 use Rattle.std.specs.Prelude.{ℕ, ◌+◌, ◌-◌, Bool, if◌then◌else◌, not, ◌==◌, List, length, map, sum_by, count_by}
 use Rattle.std.specs.List.{range_with_len}
 use Rattle.vp_suit.specs.Laws.{deals}

@@ -1,10 +1,11 @@
--- The holds of a hand, with their values.
+-- The holds of a hand, with their values: the least and the greatest of those that a rule matches, as the words say.
 use Rattle.std.specs.Prelude.{◌≡◌, ℕ, Bool, true, false, List, [], ◌∷◌, length, map, max, min}
 use Rattle.vp_pay.specs.declared.table.PayTable.{PayTable}
 use Rattle.vp_rank.specs.Bounded.{some_below}
 use Rattle.vp_draws.specs.Draws.{greatest, masks, value}
 use Rattle.vp_rule.specs.Holds.{matches}
 use Rattle.vp_rule.specs.declared.rule.Rule.{Rule}
+use Rattle.vp_compile.specs.Rows.{empty}
 use Rattle.vp_audit.specs.Values.{least, matched}
 
 -- a hand that is dealt for a bet on a table
@@ -18,11 +19,7 @@ pub record AreChoices (table : PayTable) (coin : ℕ) (hand : List ℕ) (values 
   pub five : length hand ≡ 5
   pub valued : values ≡ map (value table coin hand) masks
 
--- the greatest number of 64 bits, above all values
-abbrev pub empty : ℕ
-empty = 18446744073709551615
-
--- the least of the numbers that f gives for a list, and the greatest number of 64 bits for none
+-- the least of the numbers that f gives for a list, and for none the number of an empty cell, the greatest of 64 bits
 abbrev pub least_or_empty : (ℕ → ℕ) → List ℕ → ℕ
 least_or_empty f [] = empty
 least_or_empty f (mask ∷ masks) = least f (mask ∷ masks)

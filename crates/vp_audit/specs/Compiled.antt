@@ -1,12 +1,11 @@
--- What the rules of a pool give each class of deals, and the lists that are made of them.
-use Rattle.std.specs.Prelude.{◌≡◌, ℕ, List, [], length, map, slice_index_or}
+-- What the rules of a pool give each class of deals, and the lists that are made of them. What a list is made of is this program's own
+-- rule (docs/FORMATS.md, `vpoker compile`).
+use Rattle.std.specs.Prelude.{ℕ, List, [], map, slice_index_or}
 use Rattle.vp_suit.specs.Classes.{representatives, weight}
 use Rattle.vp_pay.specs.declared.table.PayTable.{PayTable}
-use Rattle.vp_wild.specs.Kept.{Bet}
 use Rattle.vp_draws.specs.Draws.{best, least_best, value}
 use Rattle.vp_rule.specs.Lists.{Exception, RuleList, RulePool}
 use Rattle.vp_rule.specs.declared.rule.Rule.{Rule}
-use Rattle.vp_compile.specs.Matrices.{rows_of}
 use Rattle.vp_compile.specs.Rows.{Row}
 use Rattle.vp_audit.specs.Choices.{least_or_empty}
 use Rattle.vp_audit.specs.Values.{matched, no_rule}
@@ -27,10 +26,6 @@ class_row table coin rules cards = record {
 -- all classes of a deck, by rising index of their representatives
 unfoldable pub pool_rows : PayTable → ℕ → List Rule → List Row
 pool_rows table coin rules = map (class_row table coin rules) (representatives table.deck)
-
--- the numbers of the rows of a pool for a bet, each at the place of its class
-abbrev pub HoldRows : Bet → List Rule → List ℕ → List ℕ → List ℕ → List ℕ → Type 0
-HoldRows bet rules weights best none cells = rows_of (length rules) weights best none cells ≡ pool_rows bet.table bet.coin rules
 
 -- the rules at these places
 abbrev pub ordered : List Rule → List ℕ → List Rule

@@ -1,4 +1,5 @@
--- Lists with exceptions that give classes any holds.
+-- Lists with exceptions that give classes any holds, for the one law that the best holds lose least. The list is this program's own
+-- (docs/FORMATS.md).
 use Rattle.std.specs.Prelude.{ℕ, ◌<◌, ◌≤◌, List, length, map}
 use Rattle.std.specs.List.{All}
 use Rattle.vp_suit.specs.Classes.{representatives}

@@ -1,4 +1,5 @@
--- The exceptions that are left, of which the first may be that of the next class.
+-- The exceptions that are left, of which the first may be that of the next class. This is how exceptions are looked up: no public clause
+-- rests on it.
 use Rattle.std.specs.Prelude.{ℕ, Bool, true, false, if◌then◌else◌, ◌==◌, is_some, List, [], ◌∷◌, ◌++◌, Option, Some, None, option_to_list}
 use Rattle.vp_sets.specs.Index.{set_index}
 use Rattle.vp_rule.specs.Lists.{Exception}

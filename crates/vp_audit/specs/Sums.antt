@@ -1,4 +1,5 @@
--- What is summed up over classes of deals, each by its weight.
+-- What is summed up over classes of deals, each by its weight. This is how the numbers of an audit (Audits) are reckoned: a sum over classes
+-- by weight is the sum over all deals (vp_suit, Laws).
 use Rattle.std.specs.Prelude.{ℕ, ◌+◌, ◌*◌, ◌-◌, ◌<◌, ◌^◌, not, ◌==◌, List, length, map, sum_by, Option, replicate, slice_index_or, slice_set}
 use Rattle.std.specs.List.{range_with_len}
 use Rattle.vp_suit.specs.Classes.{weight}

@@ -1,4 +1,5 @@
--- What decides a deal under a list, and what the list is charged for it.
+-- What decides a deal under a list, and what the list is charged for it. A list is read as a player reads a strategy card, the first rule
+-- that fits deciding; that it is charged the worst hold that the rule allows is this program's own rule (docs/FORMATS.md).
 use Rattle.std.specs.Prelude.{ℕ, Bool, false, true, ◌==◌, min, List, [], ◌∷◌, filter, find, position, Option, Some, None, option_map, slice_index_or}
 use Rattle.std.specs.List.{list_any}
 use Rattle.vp_sets.specs.Index.{set_index}
@@ -43,7 +44,8 @@ decided table list cards = decision (excepted list.exceptions cards) (deciding t
 abbrev pub no_rule : Rule
 no_rule = record { tests = record { items = [] } }
 
--- the value of the exception's mask for the representative of the class; else the least or the greatest value of the holds that the deciding rule matches; else the value of holding nothing
+-- the value of the exception's mask for the representative of the class; else the least or the greatest value of the holds that the
+-- deciding rule matches; else the value of holding nothing
 abbrev pub charged : ((ℕ → ℕ) → List ℕ → ℕ) → PayTable → ℕ → List Rule → List ℕ → List ℕ → Option ℕ → Option ℕ → ℕ
 charged extreme table coin rules stands cards (Some mask) place = value table coin stands mask
 charged extreme table coin rules stands cards None (Some place) = extreme (value table coin cards) (matched table (slice_index_or rules place no_rule) cards)

@@ -4,7 +4,8 @@ ghost use Rattle.std.specs.Prelude.{◌≡◌, ◌+◌, ◌*◌, ◌≤◌, leng
 ghost use Rattle.vp_suit.specs.Classes.{representatives};
 ghost use Rattle.vp_pay.specs.Table.{IsTable};
 ghost use Rattle.vp_rule.specs.Valid.{IsPool};
-ghost use Rattle.vp_audit.specs.Compiled.{HoldRows, pool_rows};
+ghost use Rattle.vp_compile.specs.Matrices.{rows_of};
+ghost use Rattle.vp_audit.specs.Compiled.{pool_rows};
 
 use crate::choices::Choices;
 use std::sync::ledger::Ledger;
@@ -62,7 +63,8 @@ fn fill_rows<L: Ledger>(
     requires none { length none.old ≡ length weights.old }
     requires cells { length cells.old ≡ length weights.old * length rules.now }
     ensures known { IsTable game.now.table }
-    ensures rows { HoldRows game.now rules.now weights.new best.new none.new cells.new }
+    ensures rows { rows_of (length rules.now) weights.new best.new none.new cells.new
+        ≡ pool_rows game.now.table game.now.coin rules.now }
     ensures steps { steps.new ≡ steps.old + length weights.old }
 {
     let mut classes = Classes::new(game.table().deck);

@@ -1,4 +1,4 @@
--- What is made of the rules of a matrix, starting from the order that they stand in.
+-- What is made of the rules of a matrix, starting from the order that they stand in (docs/FORMATS.md, `vpoker compile`).
 use Rattle.std.specs.Prelude.{ℕ, List}
 use Rattle.std.specs.List.{range_with_len}
 use Rattle.vp_compile.specs.Matrices.{Grid}

@@ -1,4 +1,4 @@
--- What the sums over sets of five obey.
+-- What the sums over sets of five obey: double counting, and inclusion and exclusion one card at a time, as in any textbook of combinatorics.
 use Rattle.std.specs.Prelude.{◌≡◌, ℕ, ◌+◌, ◌-◌, ◌*◌, ◌≤◌, List, [], ◌∷◌, length, sum_by}
 use Rattle.vp_card.specs.Cards.{held, place}
 use Rattle.vp_sets.specs.Sets.{deck, without}

@@ -1,4 +1,5 @@
--- Sums of numbers that belong to sets of five.
+-- Sums of numbers that belong to sets of five: the sets that contain some cards and none of others, as in any textbook of combinatorics
+-- (inclusion and exclusion).
 use Rattle.std.specs.Prelude.{◌≡◌, ℕ, ◌+◌, ◌-◌, ◌^◌, ◌<◌, min, Bool, not, ◌&&◌, if◌then◌else◌, List, ◌++◌, map, slice_index, sum_by}
 use Rattle.std.specs.List.{list_all}
 use Rattle.vp_card.specs.Cards.{held}

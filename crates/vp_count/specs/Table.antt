@@ -1,4 +1,4 @@
--- The words of a table of sums.
+-- The words of a table of sums. Where each sum stands is this program's own.
 use Rattle.std.specs.Prelude.{◌≡◌, ℕ, ◌+◌, ◌≤◌, List, length, slice_index, drop, sum_by}
 use Rattle.std.specs.List.{All, range_with_len}
 use Rattle.vp_card.specs.Cards.{place}

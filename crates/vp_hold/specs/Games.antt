@@ -1,4 +1,4 @@
--- What a game is of.
+-- What a game is of: a pay table and a bet, with the sums out of which the values of holds (vp_draws, Draws) are reckoned.
 use Rattle.std.specs.Prelude.{◌≡◌, ℕ, ◌*◌, ◌<◌, List, length, slice_index}
 use Rattle.vp_pay.specs.declared.table.PayTable.{PayTable}
 use Rattle.vp_pay.specs.Bets.{IsBet}

@@ -11,8 +11,10 @@ use Rattle.vp_count.specs.Sums.{spread}
 use Rattle.vp_count.specs.Table.{AreSumsOf, Table}
 use Rattle.vp_count.proofs.HandNumbers.{spread_of}
 use Rattle.vp_meter.specs.declared.hold_lines.HoldLines.{HoldLines}
-use Rattle.vp_meter.specs.Metered.{with_payment, base_pay, hit, IsMetered, Metering}
-use Rattle.vp_meter.specs.Segments.{AreLines, worth, rise}
+use Rattle.vp_meter.specs.Metered.{with_payment, base_pay, hit, Metering}
+use Rattle.vp_meter.specs.TwoTables.{IsMetered}
+use Rattle.vp_meter.specs.LinesOfHolds.{AreLines}
+use Rattle.vp_meter.specs.Segments.{worth, rise}
 use Rattle.vp_meter.proofs.Straight.{total_changed, table_changed, line_of_values}
 
 -- what the totals b and h of a hold give, times the scale k

@@ -1,4 +1,4 @@
--- What metered bets obey.
+-- What metered bets obey, and what a meter tells of every deal, in the words of Metered and of values (vp_draws, Draws).
 use Rattle.std.specs.Prelude.{◌≡◌, ℕ, ◌+◌, ◌-◌, ◌*◌, ◌<◌, ◌≤◌, if◌then◌else◌, List, ◌∷◌, length, sum_by}
 use Rattle.vp_draws.specs.Draws.{IsMean, best, sum_of_best, total, value}
 use Rattle.vp_pay.specs.Bets.{IsBet}
@@ -30,7 +30,8 @@ PaymentsAreChanged = (coin place x : ℕ) (table : PayTable) (hand : List ℕ) �
 abbrev pub ValuesAreStraight : Type 0
 ValuesAreStraight = (coin place x mask : ℕ) (table : PayTable) (hand : List ℕ) → IsBet table coin → place < length table.lines.items
     → value (with_payment table coin place x) coin hand mask
-    ≡ value (with_payment table coin place 0) coin hand mask + x * (value (with_payment table coin place 1) coin hand mask - value (with_payment table coin place 0) coin hand mask)
+    ≡ value (with_payment table coin place 0) coin hand mask
+    + x * (value (with_payment table coin place 1) coin hand mask - value (with_payment table coin place 0) coin hand mask)
 
 -- the mask in force at x of the class that has this representative
 abbrev pub mask_in_force : Metering → ℕ → ℕ → ℕ → List ℕ → ℕ
@@ -53,13 +54,15 @@ pub record PlayedHold (m : Metering) (lo hi x : ℕ) (cards : List ℕ) : Type 0
 pub record IsBestAt (m : Metering) (x : ℕ) (cards : List ℕ) (mask : ℕ) : Type 0 where
   pub best : value (at_payment m x) m.coin cards mask ≡ best (at_payment m x) m.coin cards
   pub greatest : (other : ℕ) → other < 32 → value (at_payment m x) m.coin cards other ≤ value (at_payment m x) m.coin cards mask
-  pub mean : (other : ℕ) → other < 32 → IsMean m.table.deck cards other (total (at_payment m x) m.coin cards other) (value (at_payment m x) m.coin cards other)
+  pub mean : (other : ℕ) → other < 32
+      → IsMean m.table.deck cards other (total (at_payment m x) m.coin cards other) (value (at_payment m x) m.coin cards other)
 
 -- a meter tells every deal, at each whole payment from lo to hi: each deal has a hold that is played, and each such hold is best; and the
 -- last piece that begins there or before tells the sum of the best values of all deals
 pub record TellsMeter (m : Metering) (lo hi : ℕ) : Type 0 where
   pub every : (x : ℕ) (cards : List ℕ) → lo ≤ x → x ≤ hi → IsDeal m.table.deck cards → PlayedHold m lo hi x cards
-  pub holds : (x mask : ℕ) (cards : List ℕ) → lo ≤ x → x ≤ hi → IsDeal m.table.deck cards → IsPlayed m lo hi x cards mask → IsBestAt m x cards mask
+  pub holds : (x mask : ℕ) (cards : List ℕ) → lo ≤ x → x ≤ hi → IsDeal m.table.deck cards
+      → IsPlayed m lo hi x cards mask → IsBestAt m x cards mask
   pub sums : (x : ℕ) (first : Piece) (later : List Piece) → lo ≤ x → x ≤ hi → pieces lo hi (graphs_of m lo hi) ≡ first ∷ later
       → (piece_in_force x first later).base + x * (piece_in_force x first later).slope ≡ sum_of_best (at_payment m x) m.coin
 

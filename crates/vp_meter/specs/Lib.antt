@@ -1,6 +1,8 @@
 pub mod Pieces
 pub mod Tallies
 pub mod Metered
+pub mod TwoTables
 pub mod Segments
+pub mod LinesOfHolds
 pub mod Spelling
 pub mod Laws

@@ -1,11 +1,9 @@
--- A pay table with another payment in one line, and what a hand is paid by that line and by the others.
-use Rattle.std.specs.Prelude.{ℕ, zero, suc, ◌-◌, ◌*◌, Bool, false, if◌then◌else◌, ◌==◌, ◌<◌, List, [], ◌∷◌, length, map, slice_index, slice_index_or, Option, None, Some, slice_set}
+-- A pay table with another payment in one line, and what a hand is paid by that line and by the others. So a progressive machine's pay
+-- table is stated: one payment, the meter, grows, and all else stays as it is.
+use Rattle.std.specs.Prelude.{ℕ, zero, suc, ◌-◌, Bool, false, if◌then◌else◌, ◌==◌, ◌<◌, List, [], ◌∷◌, length, map, slice_index_or, Option, None, Some, slice_set}
 use Rattle.vp_pay.specs.declared.table.PayLine.{PayLine}
 use Rattle.vp_pay.specs.declared.table.PayTable.{PayTable}
 use Rattle.vp_pay.specs.Bets.{IsBet}
-use Rattle.vp_count.specs.Sums.{spread}
-use Rattle.vp_count.specs.Table.{AreSumsOf, Table}
-use Rattle.vp_hold.specs.Games.{AreScales}
 use Rattle.vp_wild.specs.Payment.{line, pay}
 
 -- a list whose member at a place is changed
@@ -52,14 +50,3 @@ pub record IsMetering (m : Metering) : Type 0 where
 -- the table with the payment x in that line
 abbrev pub at_payment : Metering → ℕ → PayTable
 at_payment m x = with_payment m.table m.coin m.place x
-
--- the sums of what the hands are paid by other lines, and of how many are paid by this one
-pub record IsMetered (m : Metering) (scales : List ℕ) (others counted : Table) : Type 0 where
-  pub metering : IsMetering m
-  pub scaled : AreScales m.table.deck scales
-  pub base : AreSumsOf m.table.deck (base_pay m.table m.coin m.place) others
-  pub hits : AreSumsOf m.table.deck (hit m.table m.place) counted
-
--- the sum over the draws of a hold, times its scale
-abbrev pub scaled_sum : Table → List ℕ → List ℕ → ℕ → ℕ
-scaled_sum sums scales hand mask = spread sums.size sums.numbers hand mask * slice_index scales mask

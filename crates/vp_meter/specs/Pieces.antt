@@ -1,4 +1,5 @@
--- The pieces of a meter: the sums over all deals, from one payment at which some class turns to another hold to the next.
+-- The pieces of a meter: the sums over all deals, from one payment at which some class turns to another hold to the next. A sum of straight
+-- lines is one; what the text says of a piece is this program's own (docs/FORMATS.md).
 use Rattle.std.specs.Prelude.{ℕ, suc, ◌-◌, ◌*◌, Bool, true, ◌&&◌, if◌then◌else◌, ◌==◌, nat_lt, nat_le, List, [], ◌∷◌, map, filter, sum_by, count_by, codes}
 use Rattle.std.specs.List.{list_any, range_with_len}
 use Rattle.std.specs.Fmt.{decimal}

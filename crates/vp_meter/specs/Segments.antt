@@ -1,8 +1,8 @@
--- The segments of a deal: which hold is played as one payment rises, each hold being worth a number that grows along a straight line.
+-- The segments of a deal: which hold is played as one payment rises, each hold being worth a number that grows along a straight line: the
+-- upper envelope of 32 straight lines, as in any textbook of geometry. Which of the best holds is played is this program's own rule.
 -- In all of this `w x mask` is what the hold `mask` is worth where the payment is x.
-use Rattle.std.specs.Prelude.{◌≡◌, ℕ, zero, suc, ◌+◌, ◌-◌, ◌*◌, ◌<◌, ◌≤◌, if◌then◌else◌, ◌==◌, List, [], ◌∷◌, filter, find, unwrap_or, slice_index}
+use Rattle.std.specs.Prelude.{◌≡◌, ℕ, zero, suc, ◌+◌, ◌-◌, ◌*◌, ◌<◌, if◌then◌else◌, ◌==◌, List, [], ◌∷◌, filter, find, unwrap_or}
 use Rattle.vp_draws.specs.Draws.{greatest, masks, value}
-use Rattle.vp_meter.specs.declared.hold_lines.HoldLines.{HoldLines}
 use Rattle.vp_meter.specs.declared.segment.Segment.{Segment}
 use Rattle.vp_meter.specs.Metered.{Metering, at_payment}
 use Rattle.vp_meter.specs.Pieces.{in_force}
@@ -50,42 +50,7 @@ pub record IsInForceAt (w : ℕ → ℕ → ℕ) (x : ℕ) (s : Segment) : Type 
   pub slope : s.slope ≡ rise w s.mask
   pub best : w x s.mask ≡ greatest (w x) masks
 
+-- so is the last of these segments that begins at x or before, or the first where none does; no segments have none in force
 unfoldable pub IsInForce : (ℕ → ℕ → ℕ) → ℕ → List Segment → Type 0
 IsInForce w x [] = ⊥
 IsInForce w x (s ∷ ss) = IsInForceAt w x (in_force x s ss)
-
--- ---- as 32 bases and 32 slopes
-
-pub record AreLines (w : ℕ → ℕ → ℕ) (lines : HoldLines) : Type 0 where
-  pub bases : (mask : ℕ) → mask < 32 → slice_index lines.bases mask ≡ w 0 mask
-  pub slopes : (mask : ℕ) → mask < 32 → slice_index lines.slopes mask ≡ rise w mask
-  pub straight : IsStraight w
-
--- what a hold is worth at x
-abbrev pub at : HoldLines → ℕ → ℕ → ℕ
-at lines x mask = slice_index lines.bases mask + x * slice_index lines.slopes mask
-
--- what a segment is worth at x, and where it begins
-abbrev pub height : Segment → ℕ → ℕ
-height s x = s.base + x * s.slope
-
-abbrev pub own_height : Segment → ℕ
-own_height s = height s s.from
-
--- the segment of a hold that begins at x
-abbrev pub line_at : HoldLines → ℕ → ℕ → Segment
-line_at lines x mask = record { from = x; mask = mask; base = slice_index lines.bases mask; slope = slice_index lines.slopes mask }
-
--- the segment has the line of its hold, and no hold is worth more where it begins
-pub record IsTop (lines : HoldLines) (s : Segment) : Type 0 where
-  pub hold : s.mask < 32
-  pub base : slice_index lines.bases s.mask ≡ s.base
-  pub slope : slice_index lines.slopes s.mask ≡ s.slope
-  pub greatest : (mask : ℕ) → mask < 32 → at lines s.from mask ≤ s.base + s.from * s.slope
-
--- from where the segment begins up to `end` no hold is worth more, and behind it one is, unless it is hi
-pub record StaysTo (lines : HoldLines) (s : Segment) (hi end : ℕ) : Type 0 where
-  pub start : s.from ≤ end
-  pub to : end ≤ hi
-  pub stays : (x mask : ℕ) → s.from ≤ x → x ≤ end → mask < 32 → at lines x mask ≤ s.base + x * s.slope
-  pub ends : end < hi → (mask : ℕ) × (mask < 32) × (s.base + (end + 1) * s.slope < at lines (end + 1) mask)

@@ -1,4 +1,4 @@
--- The text of a meter.
+-- The text of a meter. Its lines and key words are this program's own (docs/FORMATS.md).
 use Rattle.std.specs.Prelude.{ℕ, ◌-◌, List, [], ◌∷◌, ◌++◌, map, flat_map, codes}
 use Rattle.std.specs.Fmt.{decimal}
 use Rattle.vp_card.specs.Texts.{card_text}

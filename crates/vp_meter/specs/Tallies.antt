@@ -1,4 +1,5 @@
--- The four words of each payment: what changes there from segment to segment, summed over the classes.
+-- The four words of each payment: what changes there from segment to segment, summed over the classes. This is how the pieces are reckoned:
+-- no public clause rests on it.
 use Rattle.std.specs.Prelude.{◌≡◌, ℕ, zero, suc, ◌+◌, ◌-◌, ◌*◌, ◌<◌, ◌^◌, if◌then◌else◌, ◌==◌, nat_lt, List, [], ◌∷◌, length, slice_index, sum_by}
 use Rattle.vp_meter.specs.declared.segment.Segment.{Segment}
 use Rattle.vp_meter.specs.declared.piece.Piece.{Piece}

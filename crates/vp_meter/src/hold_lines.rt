@@ -1,7 +1,8 @@
 //! The lines of all holds of a hand, and which of them is highest.
 
 ghost use Rattle.std.specs.Prelude.{◌≡◌, ℕ, ◌+◌, ◌*◌, ◌<◌, ◌≤◌, slice_index, length};
-ghost use Rattle.vp_meter.specs.Segments.{AreLines, IsTop, StaysTo, height, line_at, own_height, segment_at, segments};
+ghost use Rattle.vp_meter.specs.LinesOfHolds.{AreLines, IsTop, StaysTo, height, line_at, own_height};
+ghost use Rattle.vp_meter.specs.Segments.{segment_at, segments};
 
 use crate::Segment;
 use arrayvec::ArrayVec;
@@ -99,7 +100,8 @@ fn stays_below(segment: &Segment, base: u64, slope: u64, hi: u32) -> u32
     requires below { base + segment.now.from * slope ≤ own_height segment.now }
     ensures from { segment.now.from ≤ result }
     ensures to { result ≤ hi }
-    ensures stays { (x : ℕ) → segment.now.from ≤ x → x ≤ result → base + x * slope ≤ height segment.now x }
+    ensures stays { (x : ℕ) → segment.now.from ≤ x → x ≤ result
+        → base + x * slope ≤ height segment.now x }
     ensures ends { result < hi → height segment.now (result + 1) < base + (result + 1) * slope }
 {
     if slope <= segment.slope {

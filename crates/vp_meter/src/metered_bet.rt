@@ -5,8 +5,10 @@ ghost use Rattle.vp_card.specs.Cards.{IsHand, in_deck};
 ghost use Rattle.vp_count.specs.Sums.{spread};
 ghost use Rattle.vp_count.specs.Table.{first_word};
 ghost use Rattle.vp_draws.specs.Draws.{value};
-ghost use Rattle.vp_meter.specs.Metered.{IsMetering, at_payment, line_name, scaled_sum};
-ghost use Rattle.vp_meter.specs.Segments.{AreLines, worth};
+ghost use Rattle.vp_meter.specs.Metered.{IsMetering, at_payment, line_name};
+ghost use Rattle.vp_meter.specs.TwoTables.{scaled_sum};
+ghost use Rattle.vp_meter.specs.LinesOfHolds.{AreLines};
+ghost use Rattle.vp_meter.specs.Segments.{worth};
 ghost use Rattle.vp_pay.specs.Bets.{IsBet};
 ghost use Rattle.vp_sets.specs.Sets.{choose};
 
@@ -34,7 +36,8 @@ pub struct Metered<'a> {
 }
 
 impl<'a> Model for Metered<'a> {
-    ghost use Rattle.vp_meter.specs.Metered.{IsMetered, Metering};
+    ghost use Rattle.vp_meter.specs.Metered.{Metering};
+    ghost use Rattle.vp_meter.specs.TwoTables.{IsMetered};
 
     ghost Value = { Metering };
 
@@ -128,7 +131,8 @@ impl<'a> Metered<'a> {
         ensures base { result.0 ≡ value (at_payment self.now 0) self.now.coin hand.now mask }
         ensures slope { result.0 + result.1 ≡ value (at_payment self.now 1) self.now.coin hand.now mask }
         // With the payment x in the line the hold is worth the first number and x times the second.
-        ensures value { (x : ℕ) → value (at_payment self.now x) self.now.coin hand.now mask ≡ result.0 + x * result.1 }
+        ensures value { (x : ℕ)
+            → value (at_payment self.now x) self.now.coin hand.now mask ≡ result.0 + x * result.1 }
     {
         let factor = self.scales[mask as usize];
         let base = total_in(&self.base, hand, mask);
@@ -151,8 +155,10 @@ impl<'a> Metered<'a> {
 /// The totals of all holds in a table of sums, each times its scale.
 fn values_in(sums: &SumTable, scales: &[u64; 32], hand: &Hand) -> [u64; 32]
     requires cards { in_deck sums.now.size hand.now ≡ true }
-    requires small { IsHand hand.now → (mask : ℕ) → mask < 32 → scaled_sum sums.now scales.now hand.now mask < 2 ^ 64 }
-    ensures values { (mask : ℕ) → mask < 32 → slice_index result mask ≡ scaled_sum sums.now scales.now hand.now mask }
+    requires small { IsHand hand.now → (mask : ℕ) → mask < 32
+        → scaled_sum sums.now scales.now hand.now mask < 2 ^ 64 }
+    ensures values { (mask : ℕ) → mask < 32
+        → slice_index result mask ≡ scaled_sum sums.now scales.now hand.now mask }
     ensures hand { IsHand hand.now }
 {
     let mut reads = Reads::new(&*sums);

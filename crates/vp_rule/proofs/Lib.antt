@@ -1,6 +1,5 @@
 pub mod Answered
 pub mod AskedMasks
-pub mod CardsGrammar
 pub mod HeldRight
 pub mod Inputs
 pub mod Items

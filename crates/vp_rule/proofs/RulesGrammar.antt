@@ -5,9 +5,10 @@ use Rattle.std.specs.Fmt.{decimal}
 use Rattle.std.specs.List.{AllByRecursion}
 use Rattle.std.proofs.lemmas.Bool.{lt-ltb, ltb-true}
 use Rattle.std.proofs.lemmas.List.Elements.{All-from_recursion}
-use Rattle.vp_card.specs.Cards.{IsDeck, in_deck}
+use Rattle.vp_card.specs.Cards.{IsDeck, in_deck, rises}
 use Rattle.vp_card.specs.Texts.{card_text}
 use Rattle.vp_card.specs.Reading.{card_of}
+use Rattle.vp_card.proofs.Rises.{rises-increasing, increasing-rises}
 use Rattle.vp_text.specs.Lines.{Word}
 use Rattle.vp_text.specs.Pieces.{AreUpTo, so_many, up_to_end}
 use Rattle.vp_text.specs.ExactReaders.{ExactText}
@@ -20,12 +21,11 @@ use Rattle.vp_pay.specs.Table.{IsTable}
 use Rattle.vp_pay.specs.declared.table.PayTable.{PayTable}
 use Rattle.vp_suit.specs.Classes.{IsDeal, is_representative}
 use Rattle.vp_rule.specs.Lists.{Exception}
-use Rattle.vp_rule.specs.Reading.{digit, rises, standing, exception_of, rule_from, rule_of, test_behind}
+use Rattle.vp_rule.specs.Reading.{digit, standing, exception_of, rule_from, rule_of, test_behind}
 use Rattle.vp_rule.specs.Spelling.{except_words, rule_words, test_words}
 use Rattle.vp_rule.specs.Valid.{IsTest, IsRule, IsException}
 use Rattle.vp_rule.specs.declared.rule.Rule.{Rule}
 use Rattle.vp_rule.specs.declared.rule.Test.{Test}
-use Rattle.vp_rule.proofs.CardsGrammar.{rises-increasing, increasing-rises}
 use Rattle.vp_rule.proofs.TestsGrammar.{Exact-test}
 
 -- ---- rules

@@ -1,4 +1,4 @@
--- Inputs of a pay table that fits, of a list or a pool for it, and of nothing else.
+-- Inputs of a pay table that fits, of a list or a pool for it, and of nothing else (docs/FORMATS.md).
 use Rattle.std.specs.Prelude.{ℕ, Bool, List, Result}
 use Rattle.vp_text.specs.Lines.{feed_of}
 use Rattle.vp_text.specs.Reading.{fitting, whole}

@@ -1,4 +1,5 @@
--- Strategy lists and pools of rules: what is in them.
+-- Strategy lists and pools of rules: what is in them. A list is a strategy card, as players use it; its form is this program's own
+-- (docs/FORMATS.md, The strategy list and The pool).
 use Rattle.std.specs.Prelude.{ℕ, List}
 use Rattle.vp_rule.specs.declared.rule.Rule.{Rule}
 

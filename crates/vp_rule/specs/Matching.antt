@@ -1,4 +1,4 @@
--- Hands, the holds of which rules may match.
+-- Hands, the holds of which rules may match: which of the 32 holds a rule matches, by the tests of Holds.
 use Rattle.std.specs.Prelude.{ℕ, ◌==◌, List, ◌∷◌, length, filter}
 use Rattle.std.specs.List.{range_with_len}
 use Rattle.vp_card.specs.Cards.{held}

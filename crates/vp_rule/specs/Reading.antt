@@ -2,7 +2,7 @@
 use Rattle.std.specs.Prelude.{ℕ, Bool, true, ◌&&◌, ◌==◌, nat_lt, nat_le, List, [], ◌∷◌, ◌++◌, length, Option, Some, None, option_map, ◌⊎◌, bytes_eq, codes, if◌then◌else◌}
 use Rattle.std.specs.List.{position}
 use Rattle.std.proofs.Common.{inl, inr}
-use Rattle.vp_card.specs.Cards.{in_deck}
+use Rattle.vp_card.specs.Cards.{in_deck, rises}
 use Rattle.vp_card.specs.Reading.{card_of, rank_set_of}
 use Rattle.vp_sets.specs.Index.{set_index}
 use Rattle.vp_text.specs.Lines.{Word}
@@ -103,12 +103,6 @@ unfoldable pub next_rule_of : ℕ → ℕ → PayTable → List Rule → List Wo
 next_rule_of most version table = following (has_room most) (rule_of version table)
 
 -- ---- exceptions
-
--- each card is above the card before
-abbrev pub rises : List ℕ → Bool
-rises [] = true
-rises (card ∷ []) = true
-rises (card ∷ next ∷ cards) = nat_lt card next && rises (next ∷ cards)
 
 -- this exception, where its cards rise, are of a deck of n, and are the representative of their class
 abbrev pub standing : ℕ → Exception → Option Exception

@@ -176,7 +176,8 @@ impl<'a> List<'a> {
         // What is read keeps the rules, and its spelling stands in front of the lines that are left.
         ensures found { IfOk result (λ l. IsList table.now l × Starts (list_text table.now) lines.old l lines.new) }
         // What is spelled so is read, whatever follows.
-        ensures only { (l : RuleList) (left : Feed) → IsList table.now l → Starts (list_text table.now) lines.old l left → (result ≡ Ok l) × (lines.new ≡ left) }
+        ensures only { (l : RuleList) (left : Feed) → IsList table.now l → Starts (list_text table.now) lines.old l left
+            → (result ≡ Ok l) × (lines.new ≡ left) }
         // Refused is the first line with which the lines so far begin no list, or the one past the end where the input ends first.
         ensures refused { IfErr result (λ e. Refuses (list_text table.now) (IsList table.now) lines.old e.line) }
         // Where a line is refused, the lines behind it are left; none are where the input ends first.
@@ -194,7 +195,8 @@ impl Pool {
         // What is read keeps the rules, and its spelling stands in front of the lines that are left.
         ensures found { IfOk result (λ p. IsPool table.now p × Starts (pool_text table.now) lines.old p lines.new) }
         // What is spelled so is read, whatever follows.
-        ensures only { (p : RulePool) (left : Feed) → IsPool table.now p → Starts (pool_text table.now) lines.old p left → (result ≡ Ok p) × (lines.new ≡ left) }
+        ensures only { (p : RulePool) (left : Feed) → IsPool table.now p → Starts (pool_text table.now) lines.old p left
+            → (result ≡ Ok p) × (lines.new ≡ left) }
         // Refused is the first line with which the lines so far begin no pool, or the one past the end where the input ends first.
         ensures refused { IfErr result (λ e. Refuses (pool_text table.now) (IsPool table.now) lines.old e.line) }
         // Where a line is refused, the lines behind it are left; none are where the input ends first.

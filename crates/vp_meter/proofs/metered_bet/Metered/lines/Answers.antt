@@ -1,7 +1,8 @@
 use Rattle.std.proofs.Common.{◌∙◌, ap, subst}
 use Rattle.vp_card.specs.Cards.{in_deck}
 use Rattle.vp_meter.specs.Metered.{Metering}
-use Rattle.vp_meter.specs.Segments.{AreLines, worth}
+use Rattle.vp_meter.specs.LinesOfHolds.{AreLines}
+use Rattle.vp_meter.specs.Segments.{worth}
 use Rattle.vp_meter.proofs.MeteredValues.{value_small, hits_small, lines_are}
 use Rattle.vp_meter.proofs.metered_bet.Metered.lines.Goals as goal
 
