@@ -10,7 +10,8 @@ use Rattle.vp_card.specs.Cards.{held, joined}
 use Rattle.vp_sets.specs.Index.{set_index}
 use Rattle.vp_sets.specs.Sets.{has}
 use Rattle.vp_suit.specs.Classes.{IsDeal, representative}
-use Rattle.vp_suit.specs.Turns.{carried, mask_of, turn}
+use Rattle.vp_sets.specs.Draws.{mask_of}
+use Rattle.vp_suit.specs.Turns.{carried, turn}
 use Rattle.vp_suit.proofs.Group.{inverse, inverse_inside}
 use Rattle.vp_suit.proofs.Cards.{turn_back}
 use Rattle.vp_suit.proofs.Deals.{deal_rises, turned_deal}

@@ -1,33 +1,21 @@
 -- What the cost of a lawful game is.
-use Rattle.std.proofs.Common.{◌≡◌, ℕ, ◌*◌, ◌^◌, ◌<◌, ◌≤◌, Bool, true, false, List, [], ◌∷◌, length, arith, ◌∙◌, subst, sym, refl, ◌-◌, Some, None, Option}
+use Rattle.std.proofs.Common.{◌≡◌, ℕ, ◌<◌, ◌≤◌, true, List, [], length, arith, ◌∙◌, subst, sym, refl, ◌-◌, Some, None, Option}
 use Rattle.std.specs.Prelude.{if◌then◌else◌, IfSome}
 use Rattle.std.specs.List.Sorted.{IsPermutation}
 use Rattle.vp_card.specs.Cards.{IsHand, all_differ, in_order}
 use Rattle.vp_card.proofs.Rising.{length-joined}
 use Rattle.vp_pay.specs.Table.{IsTable}
 use Rattle.vp_pay.specs.declared.table.PayTable.{PayTable}
+use Rattle.vp_sets.specs.Draws.{mask_of}
+use Rattle.vp_sets.proofs.Masks.{mask_small}
 use Rattle.vp_draws.specs.Draws.{IsMean, best, total, value}
 use Rattle.vp_draws.proofs.Chosen.{value_le_best}
 use Rattle.vp_draws.proofs.Values.{value_mean}
 use Rattle.vp_loggram.specs.Logs.{is_of_deck}
 use Rattle.vp_loggram.specs.declared.event.Event.{Event}
-use Rattle.vp_replay.specs.Rules.{among}
 use Rattle.vp_replay.specs.LawfulGames.{AreLawfulCards}
-use Rattle.vp_replay.specs.Costs.{IsCost, cost_of, hold_of, mask_of}
+use Rattle.vp_replay.specs.Costs.{IsCost, cost_of, hold_of}
 use Rattle.vp_replay.proofs.LawfulCards.{lawful_dealt, lawful_holds}
-
-bit_small : (b : Bool) → (if b then 1 else 0) ≤ 1
-bit_small true = omega arith
-bit_small false = omega arith
-
-mask_small : (hand cards : List ℕ) → mask_of hand cards < 2 ^ length hand
-unfolding mask_of
-mask_small [] cards = omega arith
-mask_small (c ∷ hand) cards =
-    let bit = bit_small (among c cards) in
-    let rest = mask_small hand cards in
-    let twice : 2 ^ length (c ∷ hand) ≡ 2 * 2 ^ length hand = grind arith in
-    omega arith
 
 -- the cards in their order are as many
 pub length-in_order : (cards : List ℕ) → length (in_order cards) ≡ length cards
@@ -36,7 +24,7 @@ length-in_order cards = omega (arith, length-joined cards [])
 
 hold_small : (e : Event) → length (in_order e.deal) ≡ 5 → hold_of e < 32
 hold_small e five =
-    let small = mask_small (in_order e.deal) e.hold.items in
+    let small = mask_small e.hold.items (in_order e.deal) in
     rw five at small
 
 -- what each hold of the deal is worth is its mean payment
@@ -66,7 +54,7 @@ hand_is cards hand found differ is sorted some =
 
 -- what was reckoned as the cost is it
 pub reckoned : (here table : PayTable) (e : Event) (bet mask top worth : ℕ) (hand hold : List ℕ) → here ≡ table → bet ≡ e.bet → hand ≡ in_order e.deal → hold ≡ e.hold.items
-    → mask ≡ mask_of hand hold → top ≡ best here bet hand → worth ≡ value here bet hand mask → top - worth ≡ cost_of table e
+    → mask ≡ mask_of hold hand → top ≡ best here bet hand → worth ≡ value here bet hand mask → top - worth ≡ cost_of table e
 reckoned here table e bet mask top worth hand hold t b h l m most is = rw (most, is, m, t, b, h, l) refl
 
 pub cost_of_means : (table : PayTable) (e : Event) (cost : ℕ) → IsTable table → is_of_deck table.deck e ≡ true → length (in_order e.deal) ≡ 5 → AreLawfulCards e → cost ≡ cost_of table e → IsCost table e cost

@@ -1,15 +1,17 @@
 -- Lawful cards differ, and a mask holds the held ones.
-use Rattle.std.proofs.Common.{◌≡◌, ℕ, ◌+◌, ◌*◌, ◌/◌, ◌%◌, ◌≤◌, Bool, true, false, cond, List, [], ◌∷◌, ◌++◌, refl, ap, subst, ◌∙◌, arith, None, inl, inr, append_assoc}
+use Rattle.std.proofs.Common.{◌≡◌, ℕ, ◌+◌, ◌≤◌, Bool, true, false, cond, List, [], ◌∷◌, ◌++◌, refl, ap, subst, ◌∙◌, arith, None, inl, inr, append_assoc}
 use Rattle.std.specs.Prelude.{◌||◌, ◌==◌, filter, if◌then◌else◌}
 use Rattle.std.specs.List.{list_any}
 use Rattle.std.proofs.lemmas.Bool.{cases_Bool}
 use Rattle.std.proofs.lemmas.Bool.Decides.{nat_tests}
 use Rattle.std.proofs.lemmas.List.{append-nil}
-use Rattle.vp_card.specs.Rising.{times, IsRising, IsBelow}
+use Rattle.vp_card.specs.Rising.{times}
 use Rattle.vp_card.specs.Cards.{held, in_order, joined}
 use Rattle.vp_card.proofs.Rising.{times-append, times-joined, rising_same, rising-joined}
+use Rattle.vp_sets.specs.Draws.{mask_of}
+use Rattle.vp_sets.specs.Sets.{has}
+use Rattle.vp_sets.proofs.Masks.{held_of, rising-filter, times-filter}
 use Rattle.vp_replay.specs.Rules.{first_wrong, among}
-use Rattle.vp_replay.specs.Costs.{mask_of}
 
 -- ---- among and times
 
@@ -53,61 +55,20 @@ right_once wrong front (card ∷ cards) tells none once c = elim (cases_Bool (wr
 
 -- ---- the mask
 
-half : (b : Bool) (m : ℕ) → ((if b then 1 else 0) + 2 * m) / 2 ≡ m
-half true m = omega arith
-half false m = omega arith
+held_is : (hand cards : List ℕ) → held (mask_of cards hand) hand ≡ filter (λ c. among c cards) hand
+unfolding has
+held_is hand cards = held_of cards hand
 
-odd : (b : Bool) (m : ℕ) → (((if b then 1 else 0) + 2 * m) % 2 == 1) ≡ b
-odd true m = let e : (1 + 2 * m) % 2 ≡ 1 = omega arith in grind (arith, nat_tests)
-odd false m = let e : (0 + 2 * m) % 2 ≡ 0 = omega arith in grind (arith, nat_tests)
-
-pub held_is : (hand cards : List ℕ) → held (mask_of hand cards) hand ≡ filter (λ c. among c cards) hand
-unfolding mask_of
-held_is [] cards = refl
-held_is (c ∷ hand) cards = rw (half (among c cards) (mask_of hand cards), odd (among c cards) (mask_of hand cards), held_is hand cards) refl
-
-below_filter : (p : ℕ → Bool) (d : ℕ) (hand : List ℕ) → IsBelow d hand → IsBelow d (filter p hand)
-below_filter p d [] b = tt
-below_filter p d (c ∷ hand) b = elim (p c) as (λ v. IsBelow d (cond v (c ∷ filter p hand) (filter p hand))) [ true ↦ (b.0, below_filter p d hand b.1) | false ↦ below_filter p d hand b.1 ]
-
-rising_filter : (p : ℕ → Bool) (hand : List ℕ) → IsRising hand → IsRising (filter p hand)
-rising_filter p [] r = tt
-rising_filter p (c ∷ hand) r = elim (p c) as (λ v. IsRising (cond v (c ∷ filter p hand) (filter p hand))) [ true ↦ (below_filter p c hand r.0, rising_filter p hand r.1) | false ↦ rising_filter p hand r.1 ]
-
-not_same : (c d : ℕ) (p : ℕ → Bool) → p c ≡ true → p d ≡ false → (d == c) ≡ false
-not_same c d p yes_c no_d = elim (cases_Bool (d == c)) [
-  | inl is ↦ absurd (let e : d ≡ c = grind (arith, nat_tests) in let f : p c ≡ false = subst (λ (x : ℕ). p x ≡ false) e no_d in cc)
-  | inr other ↦ other
-]
-
-not_same2 : (c d : ℕ) (p : ℕ → Bool) → p c ≡ false → p d ≡ true → (d == c) ≡ false
-not_same2 c d p no_c yes_d = elim (cases_Bool (d == c)) [
-  | inl is ↦ absurd (let e : d ≡ c = grind (arith, nat_tests) in let f : p c ≡ true = subst (λ (x : ℕ). p x ≡ true) e yes_d in cc)
-  | inr other ↦ other
-]
-
-filter_in : (p : ℕ → Bool) (c : ℕ) (hand : List ℕ) → p c ≡ true → times c (filter p hand) ≡ times c hand
-filter_in p c [] e = refl
-filter_in p c (d ∷ hand) e = elim (cases_Bool (p d)) [
-  | inl there ↦ rw there (ap (λ (k : ℕ). (if d == c then 1 else 0) + k) (filter_in p c hand e))
-  | inr gone ↦ rw (gone, not_same c d p e gone) (omega (arith, filter_in p c hand e))
-]
-
-filter_out : (p : ℕ → Bool) (c : ℕ) (hand : List ℕ) → p c ≡ false → times c (filter p hand) ≡ 0
-filter_out p c [] e = refl
-filter_out p c (d ∷ hand) e = elim (cases_Bool (p d)) [
-  | inl there ↦ rw (there, not_same2 c d p e there) (omega (arith, filter_out p c hand e))
-  | inr gone ↦ rw gone (filter_out p c hand e)
-]
-
-pub holds : (deal cards : List ℕ) → ((c : ℕ) → times c deal ≤ 1) → ((c : ℕ) → times c cards ≤ times c deal) → held (mask_of (in_order deal) cards) (in_order deal) ≡ in_order cards
+pub holds : (deal cards : List ℕ) → ((c : ℕ) → times c deal ≤ 1) → ((c : ℕ) → times c cards ≤ times c deal) → held (mask_of cards (in_order deal)) (in_order deal) ≡ in_order cards
 unfolding in_order
-holds deal cards once within = held_is (in_order deal) cards ∙ rising_same _ _ (rising_filter (λ c. among c cards) (in_order deal) (rising-joined deal [] tt (λ c. rw (append-nil deal) (once c))))
+holds deal cards once within = held_is (in_order deal) cards ∙ rising_same _ _ (rising-filter (λ c. among c cards) (in_order deal) (rising-joined deal [] tt (λ c. rw (append-nil deal) (once c))))
     (rising-joined cards [] tt (λ c. rw (append-nil cards) (omega (arith, once c, within c)))) (λ c. elim (cases_Bool (among c cards)) [
       | inl there ↦
-          let one : times c (filter (λ c. among c cards) (joined deal [])) ≡ times c (joined deal []) = filter_in (λ c. among c cards) c (joined deal []) there in
+          let one : times c (filter (λ c. among c cards) (joined deal [])) ≡ times c (joined deal []) =
+          times-filter (λ c. among c cards) c (joined deal []) ∙ ap (λ (b : Bool). cond b (times c (joined deal [])) 0) there in
           omega (arith, one, times-joined c deal [], times-joined c cards [], some_among c cards there, once c, within c)
       | inr gone ↦
-          let none : times c (filter (λ c. among c cards) (joined deal [])) ≡ 0 = filter_out (λ c. among c cards) c (joined deal []) gone in
+          let none : times c (filter (λ c. among c cards) (joined deal [])) ≡ 0 =
+          times-filter (λ c. among c cards) c (joined deal []) ∙ ap (λ (b : Bool). cond b (times c (joined deal [])) 0) gone in
           omega (arith, none, times-joined c cards [], none_among c cards gone)
     ])

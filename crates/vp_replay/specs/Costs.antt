@@ -1,19 +1,14 @@
 -- What the hold of a lawful game costs.
-use Rattle.std.specs.Prelude.{◌≡◌, ℕ, ◌+◌, ◌-◌, ◌*◌, ◌<◌, ◌≤◌, List, [], ◌∷◌, if◌then◌else◌}
+use Rattle.std.specs.Prelude.{◌≡◌, ℕ, ◌+◌, ◌-◌, ◌<◌, ◌≤◌}
 use Rattle.vp_card.specs.Cards.{held, in_order}
 use Rattle.vp_pay.specs.declared.table.PayTable.{PayTable}
+use Rattle.vp_sets.specs.Draws.{mask_of}
 use Rattle.vp_draws.specs.Draws.{IsMean, best, total, value}
 use Rattle.vp_loggram.specs.declared.event.Event.{Event}
-use Rattle.vp_replay.specs.Rules.{among}
-
--- the mask that holds those cards of a hand which are among others
-unfoldable pub mask_of : List ℕ → List ℕ → ℕ
-mask_of [] cards = 0
-mask_of (card ∷ hand) cards = (if among card cards then 1 else 0) + 2 * mask_of hand cards
 
 -- the mask of the held cards, over the dealt ones in rising order
 abbrev pub hold_of : Event → ℕ
-hold_of e = mask_of (in_order e.deal) e.hold.items
+hold_of e = mask_of e.hold.items (in_order e.deal)
 
 -- the best value of the deal, less the value of the hold, at the bet
 abbrev pub cost_of : PayTable → Event → ℕ

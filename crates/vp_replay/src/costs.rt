@@ -2,9 +2,10 @@
 
 ghost use Rattle.std.specs.Prelude.{◌≡◌, ◌<◌, true, if◌then◌else◌};
 ghost use Rattle.vp_loggram.specs.Logs.{is_of_deck};
-ghost use Rattle.vp_replay.specs.Costs.{IsCost, cost_of, mask_of};
+ghost use Rattle.vp_sets.specs.Draws.{mask_of};
+ghost use Rattle.vp_sets.specs.Sets.{has};
+ghost use Rattle.vp_replay.specs.Costs.{IsCost, cost_of};
 ghost use Rattle.vp_replay.specs.LawfulGames.{IsLawfulEvent};
-ghost use Rattle.vp_replay.specs.Rules.{among};
 
 use crate::Games;
 use vp_card::{Card, Hand};
@@ -12,24 +13,25 @@ use vp_hold::Game;
 use vp_loggram::Event;
 
 /// Whether the card of this number is held.
+#[tactic(auto, unfolding(vp_sets::specs::Sets::has))]
 fn is_held(number: u8, hold: &[Card]) -> bool
-    ensures { result ≡ among number hold.now }
+    ensures { result ≡ has hold.now number }
 {
     hold.iter().any(|card| card.number() == number)
 }
 
 /// 1 where the card of this number is held, else 0.
 fn bit(number: u8, hold: &[Card]) -> u8
-    ensures value { result ≡ (if among number hold.now then 1 else 0) }
+    ensures value { result ≡ (if has hold.now number then 1 else 0) }
     ensures below { result < 2 }
 {
     u8::from(is_held(number, hold))
 }
 
 /// The mask of the held cards in the hand.
-#[tactic(auto, unfolding(crate::specs::Costs::mask_of))]
+#[tactic(auto, unfolding(vp_sets::specs::Draws::mask_of))]
 fn mask_of(hand: &Hand, hold: &[Card]) -> u8
-    ensures value { result ≡ mask_of hand.now hold.now }
+    ensures value { result ≡ mask_of hold.now hand.now }
     ensures below { result < 32 }
 {
     let [a, b, c, d, e] = hand.numbers();

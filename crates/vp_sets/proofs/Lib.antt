@@ -11,3 +11,4 @@ pub mod Walk
 pub mod Pascal
 pub mod FiveCards
 pub mod Sums
+pub mod Masks

@@ -1,13 +1,18 @@
 -- Holds of a hand, and sums over all draws.
-use Rattle.std.specs.Prelude.{ℕ, zero, suc, ◌-◌, ◌*◌, ◌/◌, ◌%◌, Bool, if◌then◌else◌, ◌==◌, List, [], ◌∷◌, length, map, fold, sum_by}
+use Rattle.std.specs.Prelude.{ℕ, zero, suc, ◌+◌, ◌-◌, ◌*◌, ◌/◌, ◌%◌, Bool, if◌then◌else◌, ◌==◌, List, [], ◌∷◌, length, map, fold, sum_by}
 use Rattle.std.specs.List.{list_all}
 use Rattle.vp_card.specs.Cards.{held, joined}
-use Rattle.vp_sets.specs.Sets.{deck, combos, choose, without}
+use Rattle.vp_sets.specs.Sets.{deck, combos, choose, has, without}
 
 -- the cards at the places whose bit isn't set in the mask, the first place having the lowest bit
 unfoldable pub discarded : ℕ → List ℕ → List ℕ
 discarded mask [] = []
 discarded mask (c ∷ cs) = if mask % 2 == 1 then discarded (mask / 2) cs else c ∷ discarded (mask / 2) cs
+
+-- the mask that holds, of a hand, the cards that are in the set
+unfoldable pub mask_of : List ℕ → List ℕ → ℕ
+mask_of kept [] = 0
+mask_of kept (card ∷ cards) = (if has kept card then 1 else 0) + 2 * mask_of kept cards
 
 -- the draws of a hold: each list of as many cards as were discarded, out of those that were not dealt
 unfoldable pub draws : ℕ → List ℕ → ℕ → List (List ℕ)

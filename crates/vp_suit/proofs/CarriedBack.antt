@@ -7,7 +7,8 @@ use Rattle.vp_card.specs.Cards.{held}
 use Rattle.vp_card.specs.Rising.{times, IsBelow, IsRising}
 use Rattle.vp_sets.specs.Sets.{has}
 use Rattle.vp_card.proofs.Rising.{rising_same, times-below}
-use Rattle.vp_suit.specs.Turns.{turned, turn, mask_of, carried}
+use Rattle.vp_sets.specs.Draws.{mask_of}
+use Rattle.vp_suit.specs.Turns.{turned, turn, carried}
 use Rattle.vp_suit.proofs.Group.{inverse, inverse_inside}
 use Rattle.vp_suit.proofs.Cards.{turned_back, times-turn, turn-rising, turn-length, turn_back}
 use Rattle.vp_suit.proofs.Masks.{has_is, rising-held, times-held, held_carried}

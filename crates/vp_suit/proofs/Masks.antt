@@ -1,15 +1,15 @@
 -- Masks that are carried along with a turned deal.
-use Rattle.std.proofs.Common.{◌≡◌, inl, inr, ℕ, zero, suc, ◌+◌, ◌^◌, ◌*◌, ◌/◌, ◌%◌, ◌<◌, ◌≤◌, Bool, true, false, cond, not, ◌==◌, ltb, List, [], ◌∷◌, length, map, filter, refl, ap, sym, ◌∙◌, arith, zero-add}
+use Rattle.std.proofs.Common.{◌≡◌, inl, inr, ℕ, zero, suc, ◌+◌, ◌^◌, ◌*◌, ◌/◌, ◌%◌, ◌<◌, ◌≤◌, true, false, cond, not, ◌==◌, ltb, List, [], ◌∷◌, length, map, filter, refl, ap, sym, ◌∙◌, arith, zero-add}
 use Rattle.std.specs.List.{list_any}
 use Rattle.std.proofs.lemmas.Bool.{cases_eq, eq-eqb, ne_eqb, lt-ltb}
 use Rattle.std.proofs.lemmas.Bool.Decides.{nat_tests}
-use Rattle.std.proofs.Math.Nat.{pow-suc, pow-zero}
 use Rattle.vp_card.specs.Cards.{held}
 use Rattle.vp_card.specs.Rising.{times, IsBelow, IsRising}
 use Rattle.vp_sets.specs.Sets.{has}
-use Rattle.vp_sets.specs.Draws.{discarded}
+use Rattle.vp_sets.specs.Draws.{discarded, mask_of}
 use Rattle.vp_card.proofs.Rising.{rising_same, times-rising}
-use Rattle.vp_suit.specs.Turns.{turned, turn, mask_of, carried}
+use Rattle.vp_sets.proofs.Masks.{discarded_of, held_of, mask_small, rising-filter, times-filter}
+use Rattle.vp_suit.specs.Turns.{turned, turn, carried}
 use Rattle.vp_suit.proofs.Group.{inverse}
 use Rattle.vp_suit.proofs.Cards.{times-mapped, times-turn, turn-rising, turn-length}
 
@@ -36,38 +36,7 @@ unfolding mask_of
 mask_same a b [] h = refl
 mask_same a b (c ∷ cards) h = rw (h c, mask_same a b cards h) refl
 
-pub mask_first : (kept : List ℕ) (c : ℕ) (cards : List ℕ) → (mask_of kept (c ∷ cards) % 2 ≡ cond (has kept c) 1 0) × (mask_of kept (c ∷ cards) / 2 ≡ mask_of kept cards)
-unfolding mask_of
-mask_first kept c cards = elim (has kept c) as (λ v. ((cond v 1 0 + 2 * mask_of kept cards) % 2 ≡ cond v 1 0) × ((cond v 1 0 + 2 * mask_of kept cards) / 2 ≡ mask_of kept cards)) [
-  | true ↦ (omega arith, omega arith)
-  | false ↦ (omega arith, omega arith)
-]
-
--- a mask made for a set holds the cards that are in the set
-pub held_of : (kept cards : List ℕ) → held (mask_of kept cards) cards ≡ filter (λ c. has kept c) cards
-held_of kept [] = refl
-held_of kept (c ∷ cards) =
-    let two = mask_first kept c cards in
-    let rest : held (mask_of kept cards) cards ≡ filter (λ d. has kept d) cards = held_of kept cards in
-    rw (two.0, two.1, rest) (elim (has kept c) as (λ v. cond (cond v 1 0 == 1) (c ∷ filter (λ d. has kept d) cards) (filter (λ d. has kept d) cards) ≡ cond v (c ∷ filter (λ d. has kept d) cards) (filter (λ d. has kept d) cards)) [ true ↦ refl | false ↦ refl ])
-
-pub discarded_of : (kept cards : List ℕ) → discarded (mask_of kept cards) cards ≡ filter (λ c. not (has kept c)) cards
-unfolding discarded
-discarded_of kept [] = refl
-discarded_of kept (c ∷ cards) =
-    let two = mask_first kept c cards in
-    let rest : discarded (mask_of kept cards) cards ≡ filter (λ d. not (has kept d)) cards = discarded_of kept cards in
-    rw (two.0, two.1, rest) (elim (has kept c) as (λ v. cond (cond v 1 0 == 1) (filter (λ d. not (has kept d)) cards) (c ∷ filter (λ d. not (has kept d)) cards) ≡ cond (not v) (c ∷ filter (λ d. not (has kept d)) cards) (filter (λ d. not (has kept d)) cards)) [ true ↦ refl | false ↦ refl ])
-
 -- ---- what is left of a rising list rises
-
-below-filter : (p : ℕ → Bool) (c : ℕ) (s : List ℕ) → IsBelow c s → IsBelow c (filter p s)
-below-filter p c [] b = tt
-below-filter p c (d ∷ s) b = elim (p d) as (λ v. IsBelow c (cond v (d ∷ filter p s) (filter p s))) [ true ↦ (b.0, below-filter p c s b.1) | false ↦ below-filter p c s b.1 ]
-
-pub rising-filter : (p : ℕ → Bool) (s : List ℕ) → IsRising s → IsRising (filter p s)
-rising-filter p [] r = tt
-rising-filter p (d ∷ s) r = elim (p d) as (λ v. IsRising (cond v (d ∷ filter p s) (filter p s))) [ true ↦ (below-filter p d s r.0, rising-filter p s r.1) | false ↦ rising-filter p s r.1 ]
 
 below-held : (m c : ℕ) (s : List ℕ) → IsBelow c s → IsBelow c (held m s) × IsBelow c (discarded m s)
 unfolding discarded
@@ -88,25 +57,6 @@ rising-held m (d ∷ s) r =
     elim (m % 2 == 1) as (λ v. IsRising (cond v (d ∷ held (m / 2) s) (held (m / 2) s)) × IsRising (cond v (discarded (m / 2) s) (d ∷ discarded (m / 2) s))) [
       | true ↦ ((first.0, rest.0), rest.1)
       | false ↦ (rest.0, (first.1, rest.1))
-    ]
-
-nothing : (b : Bool) → times 0 [] ≡ cond b 0 0
-nothing true = refl
-nothing false = refl
-
-pub times-filter : (p : ℕ → Bool) (x : ℕ) (s : List ℕ) → times x (filter p s) ≡ cond (p x) (times x s) 0
-times-filter p x [] = nothing (p x)
-times-filter p x (d ∷ s) =
-    let rest : times x (filter p s) ≡ cond (p x) (times x s) 0 = times-filter p x s in
-    elim (cases_eq d x) [
-      | inl e ↦ rw e (elim (p x) as (λ v. times x (filter p s) ≡ cond v (times x s) 0 → times x (cond v (x ∷ filter p s) (filter p s)) ≡ cond v (cond (x == x) 1 0 + times x s) 0) [
-        | true ↦ λ h. rw h refl
-        | false ↦ λ h. h
-      ] rest)
-      | inr e ↦ elim (p d) as (λ v. times x (cond v (d ∷ filter p s) (filter p s)) ≡ cond (p x) (cond (d == x) 1 0 + times x s) 0) [
-        | true ↦ rw (ne_eqb d x e, zero-add, zero-add) rest
-        | false ↦ rw (ne_eqb d x e, zero-add) rest
-      ]
     ]
 
 -- each card is held or discarded
@@ -163,15 +113,6 @@ carried_is t m cards l =
 pub mask_five : (kept : List ℕ) (a b c d e : ℕ) → mask_of kept (a ∷ b ∷ c ∷ d ∷ e ∷ []) ≡ cond (has kept a) 1 0 + 2 * cond (has kept b) 1 0 + 4 * cond (has kept c) 1 0 + 8 * cond (has kept d) 1 0 + 16 * cond (has kept e) 1 0
 unfolding mask_of
 mask_five kept a b c d e = omega arith
-
--- a mask over as many cards
-pub mask_small : (kept cards : List ℕ) → mask_of kept cards < 2 ^ length cards
-unfolding mask_of
-mask_small kept [] = rw pow-zero (omega arith)
-mask_small kept (c ∷ cards) =
-    let rest : mask_of kept cards < 2 ^ length cards = mask_small kept cards in
-    let p : 2 ^ suc (length cards) ≡ 2 ^ length cards * 2 = pow-suc 2 (length cards) in
-    elim (has kept c) as (λ v. cond v 1 0 + 2 * mask_of kept cards < 2 ^ suc (length cards)) [ true ↦ omega arith | false ↦ omega arith ]
 
 pub carried_small : (t m : ℕ) (cards : List ℕ) → length cards ≡ 5 → carried t cards m < 32
 unfolding carried

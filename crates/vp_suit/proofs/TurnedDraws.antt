@@ -17,7 +17,8 @@ use Rattle.vp_suit.specs.Turns.{turned, turn, carried}
 use Rattle.vp_suit.specs.Classes.{IsDeal, IsKept}
 use Rattle.vp_suit.proofs.Group.{inverse, inverse_inside}
 use Rattle.vp_suit.proofs.Cards.{turned_below, turned_forth, times-mapped, times-turn, turn-rising, turn-length}
-use Rattle.vp_suit.proofs.Masks.{has_is, times-filter, rising-filter, held_carried, discarded_carried}
+use Rattle.vp_sets.proofs.Masks.{rising-filter, times-filter}
+use Rattle.vp_suit.proofs.Masks.{has_is, held_carried, discarded_carried}
 use Rattle.vp_suit.proofs.Deals.{deal_rises}
 
 -- ---- sums over the sublists of cards in any order

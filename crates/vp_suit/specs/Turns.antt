@@ -2,7 +2,8 @@
 use Rattle.std.specs.Prelude.{ℕ, zero, suc, ◌+◌, ◌*◌, if◌then◌else◌, nat_lt, List, [], ◌∷◌, map, slice_index, slice_index_or}
 use Rattle.std.specs.List.{flat_map}
 use Rattle.vp_card.specs.Cards.{rank, suit, held, joined}
-use Rattle.vp_sets.specs.Sets.{deck, has, without}
+use Rattle.vp_sets.specs.Draws.{mask_of}
+use Rattle.vp_sets.specs.Sets.{deck, without}
 
 -- the lists of k different members of s, in lexicographic order
 unfoldable pub arrangements : ℕ → List ℕ → List (List ℕ)
@@ -20,11 +21,6 @@ turned t card = if nat_lt card 52 then 4 * rank card + turned_suit t (suit card)
 -- the deal that turn t makes of a deal, in rising order
 unfoldable pub turn : ℕ → List ℕ → List ℕ
 turn t cards = joined (map (λ card. turned t card) cards) []
-
--- the mask that holds, of a deal, the cards that are in the set
-unfoldable pub mask_of : List ℕ → List ℕ → ℕ
-mask_of kept [] = 0
-mask_of kept (card ∷ cards) = (if has kept card then 1 else 0) + 2 * mask_of kept cards
 
 -- the mask over the turned deal that holds the turned cards
 unfoldable pub carried : ℕ → List ℕ → ℕ → ℕ

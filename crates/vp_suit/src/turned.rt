@@ -5,7 +5,8 @@ ghost use Rattle.std.specs.List.{list_any};
 ghost use Rattle.vp_card.specs.Cards.{IsHand, held};
 ghost use Rattle.vp_sets.specs.Sets.{has};
 ghost use Rattle.vp_sets.specs.Draws.{discarded};
-ghost use Rattle.vp_suit.specs.Turns.{turned, turn, mask_of, carried};
+ghost use Rattle.vp_sets.specs.Draws.{mask_of};
+ghost use Rattle.vp_suit.specs.Turns.{turned, turn, carried};
 
 use crate::SuitTurn;
 use vp_card::{Card, Hand};

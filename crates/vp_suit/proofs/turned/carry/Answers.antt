@@ -1,7 +1,8 @@
 use Rattle.std.proofs.Common.{◌≡◌, ap, ◌∙◌, ℕ, ◌<◌, List, map}
 use Rattle.vp_card.specs.Cards.{held}
 use Rattle.vp_sets.specs.Draws.{discarded}
-use Rattle.vp_suit.specs.Turns.{turned, turn, mask_of, carried}
+use Rattle.vp_sets.specs.Draws.{mask_of}
+use Rattle.vp_suit.specs.Turns.{turned, turn, carried}
 use Rattle.vp_suit.proofs.Masks.{carried_is, held_carried, discarded_carried}
 use Rattle.vp_suit.proofs.Hands.{hand_rises}
 use Rattle.vp_suit.proofs.turned.carry.Goals as goal

@@ -1,5 +1,6 @@
 use Rattle.std.proofs.Common.{ap, sym, ◌∙◌, map, List, ℕ, arith}
-use Rattle.vp_suit.specs.Turns.{turned, mask_of}
+use Rattle.vp_sets.specs.Draws.{mask_of}
+use Rattle.vp_suit.specs.Turns.{turned}
 use Rattle.vp_suit.proofs.Masks.{mask_five}
 use Rattle.vp_sets.proofs.FiveCards.{five_in_row}
 use Rattle.vp_suit.proofs.turned.mask_of.Goals as goal
