@@ -4,6 +4,7 @@ use Rattle.std.specs.Prelude.{if◌then◌else◌, IfSome}
 use Rattle.std.specs.List.Sorted.{IsPermutation}
 use Rattle.vp_card.specs.Cards.{IsHand, all_differ, in_order}
 use Rattle.vp_card.proofs.Rising.{length-joined}
+use Rattle.vp_sets.specs.Sets.{has}
 use Rattle.vp_pay.specs.Table.{IsTable}
 use Rattle.vp_pay.specs.declared.table.PayTable.{PayTable}
 use Rattle.vp_draws.specs.Draws.{IsMean, best, total, value}
@@ -11,7 +12,6 @@ use Rattle.vp_draws.proofs.Chosen.{value_le_best}
 use Rattle.vp_draws.proofs.Values.{value_mean}
 use Rattle.vp_loggram.specs.Logs.{is_of_deck}
 use Rattle.vp_loggram.specs.declared.event.Event.{Event}
-use Rattle.vp_replay.specs.Rules.{among}
 use Rattle.vp_replay.specs.LawfulGames.{AreLawfulCards}
 use Rattle.vp_replay.specs.Costs.{IsCost, cost_of, hold_of, mask_of}
 use Rattle.vp_replay.proofs.LawfulCards.{lawful_dealt, lawful_holds}
@@ -24,7 +24,7 @@ mask_small : (hand cards : List ℕ) → mask_of hand cards < 2 ^ length hand
 unfolding mask_of
 mask_small [] cards = omega arith
 mask_small (c ∷ hand) cards =
-    let bit = bit_small (among c cards) in
+    let bit = bit_small (has cards c) in
     let rest = mask_small hand cards in
     let twice : 2 ^ length (c ∷ hand) ≡ 2 * 2 ^ length hand = grind arith in
     omega arith

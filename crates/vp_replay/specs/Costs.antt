@@ -1,15 +1,15 @@
--- What the hold of a lawful game costs.
+-- What the hold of a lawful game costs: the best expected payment of its deal less that of the hold (vp_draws, Draws).
 use Rattle.std.specs.Prelude.{◌≡◌, ℕ, ◌+◌, ◌-◌, ◌*◌, ◌<◌, ◌≤◌, List, [], ◌∷◌, if◌then◌else◌}
 use Rattle.vp_card.specs.Cards.{held, in_order}
+use Rattle.vp_sets.specs.Sets.{has}
 use Rattle.vp_pay.specs.declared.table.PayTable.{PayTable}
 use Rattle.vp_draws.specs.Draws.{IsMean, best, total, value}
 use Rattle.vp_loggram.specs.declared.event.Event.{Event}
-use Rattle.vp_replay.specs.Rules.{among}
 
 -- the mask that holds those cards of a hand which are among others
 unfoldable pub mask_of : List ℕ → List ℕ → ℕ
 mask_of [] cards = 0
-mask_of (card ∷ hand) cards = (if among card cards then 1 else 0) + 2 * mask_of hand cards
+mask_of (card ∷ hand) cards = (if has cards card then 1 else 0) + 2 * mask_of hand cards
 
 -- the mask of the held cards, over the dealt ones in rising order
 abbrev pub hold_of : Event → ℕ
@@ -27,4 +27,5 @@ pub record IsCost (table : PayTable) (e : Event) (cost : ℕ) : Type 0 where
   pub held : held (hold_of e) (in_order e.deal) ≡ in_order e.hold.items
   pub worth : value table e.bet (in_order e.deal) (hold_of e) + cost ≡ best table e.bet (in_order e.deal)
   pub greatest : (other : ℕ) → other < 32 → value table e.bet (in_order e.deal) other ≤ best table e.bet (in_order e.deal)
-  pub mean : (other : ℕ) → other < 32 → IsMean table.deck (in_order e.deal) other (total table e.bet (in_order e.deal) other) (value table e.bet (in_order e.deal) other)
+  pub mean : (other : ℕ) → other < 32
+      → IsMean table.deck (in_order e.deal) other (total table e.bet (in_order e.deal) other) (value table e.bet (in_order e.deal) other)

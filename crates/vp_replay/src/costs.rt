@@ -1,10 +1,10 @@
 //! What the hold of a lawful game costs.
 
 ghost use Rattle.std.specs.Prelude.{◌≡◌, ◌<◌, true, if◌then◌else◌};
+ghost use Rattle.vp_sets.specs.Sets.{has};
 ghost use Rattle.vp_loggram.specs.Logs.{is_of_deck};
 ghost use Rattle.vp_replay.specs.Costs.{IsCost, cost_of, mask_of};
 ghost use Rattle.vp_replay.specs.LawfulGames.{IsLawfulEvent};
-ghost use Rattle.vp_replay.specs.Rules.{among};
 
 use crate::Games;
 use vp_card::{Card, Hand};
@@ -12,15 +12,16 @@ use vp_hold::Game;
 use vp_loggram::Event;
 
 /// Whether the card of this number is held.
+#[tactic(auto, unfolding(vp_sets::specs::Sets::has))]
 fn is_held(number: u8, hold: &[Card]) -> bool
-    ensures { result ≡ among number hold.now }
+    ensures { result ≡ has hold.now number }
 {
     hold.iter().any(|card| card.number() == number)
 }
 
 /// 1 where the card of this number is held, else 0.
 fn bit(number: u8, hold: &[Card]) -> u8
-    ensures value { result ≡ (if among number hold.now then 1 else 0) }
+    ensures value { result ≡ (if has hold.now number then 1 else 0) }
     ensures below { result < 2 }
 {
     u8::from(is_held(number, hold))
