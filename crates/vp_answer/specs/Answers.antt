@@ -1,4 +1,4 @@
--- What the program answers: a status and a text.
+-- What the program answers: a status and a text, both this program's own (docs/FORMATS.md).
 use Rattle.std.specs.Prelude.{ℕ, List, [], ◌∷◌, Result, Ok, Err, codes}
 use Rattle.std.specs.Fmt.{decimal}
 use Rattle.vp_text.specs.Lines.{Word}

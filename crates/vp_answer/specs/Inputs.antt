@@ -1,4 +1,4 @@
--- What an input says: a pay table that fits, alone or with a section behind it.
+-- What an input says: a pay table that fits, alone or with a section behind it (docs/FORMATS.md).
 use Rattle.std.specs.Prelude.{◌≡◌, ◌↔◌, ℕ, Bool, IsTrue, List, Result, Ok, Err, ◌⊎◌}
 use Rattle.vp_card.specs.Cards.{in_order}
 use Rattle.vp_text.specs.ExactReaders.{Reader}
@@ -18,9 +18,11 @@ pub record AreRead {A : Type 0} (input : List ℕ → Result A ℕ) (Spelled : L
 
 -- ---- a pay table that fits, and nothing else
 
+-- the table; else the line where the input is refused
 unfoldable pub table_input : (PayTable → Bool) → List ℕ → Result (PayTable × Unit {0}) ℕ
 table_input fits bytes = whole (fitting fits table_at (λ table. nothing)) (feed_of bytes)
 
+-- the lines are the spelling of this table, which keeps the rules and fits, and nothing else
 abbrev pub SpellsTable : (PayTable → Bool) → List ℕ → PayTable × Unit {0} → Type 0
 SpellsTable fits bytes read = IsTable read.0 × IsTrue (fits read.0) × IsWhole table_text (feed_of bytes) read.0
 
@@ -35,6 +37,7 @@ TablesAreRead = (fits : PayTable → Bool) → AreRead (table_input fits) (Spell
 
 -- ---- a pay table that fits, a section of its own behind it, and nothing else
 
+-- the table, and what the reader makes of the section behind it; else the line where the input is refused
 unfoldable pub section_input : {B : Type 0} → (PayTable → Bool) → (PayTable → Reader B) → List ℕ → Result (PayTable × B) ℕ
 section_input fits reader bytes = whole (fitting fits table_at reader) (feed_of bytes)
 
@@ -43,6 +46,8 @@ abbrev pub SpellsSection : {B C : Type 0} → (PayTable → Bool) → (PayTable 
 SpellsSection {C = C} fits spell Valid see bytes read =
     (said : C) × AcceptedInput table_text IsTable fits spell Valid (feed_of bytes) (read.0, said) × (read.1 ≡ see said)
 
+-- the refused line: the last line of a table that does not fit; else the first line with which the lines so far begin no table with a
+-- section that is valid for it behind, or the one past the end
 abbrev pub RefusesSection : {C : Type 0} → (PayTable → Bool) → (PayTable → C → Text) → (PayTable → C → Type 0) → List ℕ → ℕ → Type 0
 RefusesSection fits spell Valid bytes line = RefusedInput table_text IsTable fits spell Valid (feed_of bytes) line
 

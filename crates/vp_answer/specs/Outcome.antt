@@ -1,4 +1,5 @@
--- How the program may end: what was read, what was written, and which faults came.
+-- How the program may end: what was read, what was written, and which faults came. The ways are this program's own (docs/FORMATS.md,
+-- Refusals and the exit status).
 use Rattle.std.specs.Prelude.{◌≡◌, ◌⊎◌, ◌<◌, ◌≤◌, ℕ, List, length, Some}
 use Rattle.std.specs.Io.KnownBytes.{Appends, Keeps}
 use Rattle.vp_io.specs.Causes.{Rose}
@@ -23,7 +24,7 @@ pub record Answered (due : Answer) (before after : Told) (status : Status) : Typ
   pub text : Appends before.bytes after.bytes due.text
   pub no_fault : after.faults ≡ before.faults
 
--- a write failed, and the sink took a proper part of the text
+-- a write failed, and the sink took a beginning of the text that is shorter than it
 pub record CutOff (due : Answer) (before after : Told) : Type 0 where
   pub part : TookPart before.bytes after.bytes due.text
   pub rose : Rose before.faults after.faults

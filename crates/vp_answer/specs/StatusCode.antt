@@ -1,4 +1,4 @@
--- The number that the program ends with.
+-- The number that the program ends with: this program's own (docs/FORMATS.md, Refusals and the exit status).
 use Rattle.std.specs.Prelude.{ℕ}
 use Rattle.vp_answer.specs.declared.status.Status.{Status}
 use Rattle.vp_answer.specs.declared.status.Status.TheVariants.{Done, Finding, Usage, Refused, ReadFault, WriteFault, NoMemory, TooLong}

@@ -1,4 +1,5 @@
--- What cards, sets of ranks, hands and masks mean, over numbers.
+-- What cards, sets of ranks, hands and masks mean, over numbers. The cards are those of the usual deck, 13 ranks in four suits, with none,
+-- one or two jokers; their numbers are this program's own (docs/FORMATS.md, The game log).
 use Rattle.std.specs.Prelude.{◌≡◌, ℕ, ◌≤◌, ◌/◌, ◌%◌, Bool, true, cond, if◌then◌else◌, not, ◌&&◌, ◌==◌, nat_le, nat_lt, Option, Some, None, List, [], ◌∷◌, length}
 use Rattle.std.specs.List.{list_all}
 use Rattle.std.specs.List.Sorted.{IsStrictlyIncreasing}

@@ -1,4 +1,5 @@
--- The texts of cards and of sets of ranks.
+-- The texts of cards and of sets of ranks. The letters are the usual ones of ranks and suits; those of the jokers are this program's own
+-- (docs/FORMATS.md).
 use Rattle.std.specs.Prelude.{ℕ, nat_lt, ◌==◌, List, [], ◌∷◌, slice_index, codes, if◌then◌else◌}
 use Rattle.vp_card.specs.Cards.{rank, suit, held}
 

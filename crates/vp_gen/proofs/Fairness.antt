@@ -6,12 +6,12 @@ use Rattle.std.proofs.lemmas.Bool.Decides.{nat_tests}
 use Rattle.vp_card.specs.Rising.{times}
 use Rattle.vp_card.specs.Cards.{in_order}
 use Rattle.vp_card.proofs.Rising.{times-append, times-same}
-use Rattle.vp_sets.specs.Sets.{deck}
+use Rattle.vp_sets.specs.Sets.{deck, has}
 use Rattle.vp_pay.specs.Bets.{IsBet}
 use Rattle.vp_pay.specs.Table.{IsTable}
 use Rattle.vp_pay.specs.declared.table.PayTable.{PayTable}
 use Rattle.vp_loggram.specs.declared.event.Event.{Event}
-use Rattle.vp_replay.specs.Rules.{among, bet_breach, break_in, break_of, cards_breach, count_breach, credits_breach, deal_breach, draw_breach, first_break, first_wrong, funds_breach, hold_breach, paid, pay_breach, wrong_deal, wrong_draw, wrong_hold}
+use Rattle.vp_replay.specs.Rules.{bet_breach, break_in, break_of, cards_breach, count_breach, credits_breach, deal_breach, draw_breach, first_break, first_wrong, funds_breach, hold_breach, paid, pay_breach, wrong_deal, wrong_draw, wrong_hold}
 use Rattle.vp_replay.proofs.Masking.{among_none}
 use Rattle.vp_gen.specs.Generator.{drawn, games_from, generated, made, masked}
 use Rattle.vp_gen.proofs.Counts.{AreCards, are_cards, dealt}
@@ -30,7 +30,8 @@ none_wrong wrong front (card ∷ cards) right =
 at_place : (all before after : List ℕ) (card : ℕ) → all ≡ before ++ card ∷ after → times card before + 1 ≤ times card all
 at_place all before after card e = let t : times card all ≡ times card (before ++ card ∷ after) = ap (times card) e in omega (arith, t, times-append card before (card ∷ after), times-same card after)
 
-is_among : (card : ℕ) (cards : List ℕ) → 1 ≤ times card cards → among card cards ≡ true
+is_among : (card : ℕ) (cards : List ℕ) → 1 ≤ times card cards → has cards card ≡ true
+unfolding has
 is_among card [] e = absurd (omega arith)
 is_among card (other ∷ cards) e = elim (other == card) as (λ b. 1 ≤ (if b then 1 else 0) + times card cards → (b || list_any (λ o. o == card) cards) ≡ true) [
   | true ↦ λ e. refl

@@ -1,4 +1,5 @@
--- Logs out of a number: the generator of numbers, and the games that are made from them.
+-- Logs out of a number: the generator of numbers, a linear congruence as in any textbook on random numbers, and the games that are made
+-- from them, by this program's own rule (docs/FORMATS.md, `vpoker play`). No chance is claimed of them.
 use Rattle.std.specs.Prelude.{ℕ, zero, suc, ◌+◌, ◌-◌, ◌*◌, ◌/◌, ◌%◌, ◌^◌, ◌==◌, List, [], ◌∷◌, ◌++◌, length, get_or, if◌then◌else◌}
 use Rattle.std.specs.List.{remove}
 use Rattle.vp_card.specs.Cards.{held, in_order}

@@ -1,4 +1,4 @@
--- What is promised of every log that is made.
+-- What is promised of every log that is made: it is a log (vp_loggram, Logs), and breaks no law of its game (vp_replay, LawfulGames).
 use Rattle.std.specs.Prelude.{◌≡◌, ℕ, ◌≤◌, List, [], length, Ok, None}
 use Rattle.vp_text.specs.Lines.{Feed, feed_of}
 use Rattle.vp_text.specs.Written.{written}

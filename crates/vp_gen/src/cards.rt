@@ -41,7 +41,8 @@ pub(crate) fn draw(
 ) -> ArrayVec<Card, 5>
     requires few { count ≤ 5 }
     requires room { count ≤ length rest.old.items }
-    ensures drawn { drawn count state.old rest.old.items ≡ record { cards = result.items; rest = rest.new.items; state = state.new } }
+    ensures drawn { drawn count state.old rest.old.items
+        ≡ record { cards = result.items; rest = rest.new.items; state = state.new } }
     ensures count { length result.items ≡ count }
 {
     let mut cards = ArrayVec::new();

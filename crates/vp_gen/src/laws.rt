@@ -8,5 +8,6 @@ ghost use Rattle.vp_gen.specs.Promises.{IsAccepted};
 
 /// Every log of at most 100000 games that is made from a seed, for a bet on a pay table, is accepted.
 pub fn made_logs_are_accepted()
-    ensures { (table : PayTable) (coin seed games : ℕ) → IsBet table coin → games ≤ 100000 → IsAccepted table coin games (generated table coin seed games) }
+    ensures { (table : PayTable) (coin seed games : ℕ) → IsBet table coin → games ≤ 100000
+        → IsAccepted table coin games (generated table coin seed games) }
 {}

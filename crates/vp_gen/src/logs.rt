@@ -39,7 +39,8 @@ fn push_games<L: Ledger>(
     requires funds { game.now.coin * games ≤ credits }
     requires small { credits ≤ 500000 }
     requires few { games ≤ 100000 }
-    ensures { OnOk result (text.new.items ≡ text.old.items ++ written (map event_words (games_from game.now.table game.now.coin credits state games))) }
+    ensures { OnOk result (text.new.items
+        ≡ text.old.items ++ written (map event_words (games_from game.now.table game.now.coin credits state games))) }
 {
     let pack = whole_deck(game.table().deck);
     let mut credits = credits;
@@ -66,7 +67,8 @@ fn log_of<L: Ledger>(
     requires name { blank.name ≡ L.name }
     requires parts { blank.parts ≡ L.parts }
     requires share { 0 < blank.parts }
-    ensures text { IfOk result (λ text. text.items ≡ written (log_text (generated game.now.table game.now.coin seed games))) }
+    ensures text { IfOk result (λ text. text.items
+        ≡ written (log_text (generated game.now.table game.now.coin seed games))) }
     ensures fits { IfOk result (λ text. length text.items ≤ 67108864) }
 {
     let table = game.table();
@@ -94,7 +96,8 @@ fn log_of<L: Ledger>(
 pub fn make_log(alloc: Global, game: &Game, seed: u64, games: u32) -> Result<Vec<u8>, AllocError>
     requires some { 1 ≤ games }
     requires most { games ≤ 100000 }
-    ensures text { IfOk result (λ text. text.items ≡ written (log_text (generated game.now.table game.now.coin seed games))) }
+    ensures text { IfOk result (λ text. text.items
+        ≡ written (log_text (generated game.now.table game.now.coin seed games))) }
     // No text is longer than an input may be.
     ensures fits { IfOk result (λ text. length text.items ≤ 67108864) }
 {

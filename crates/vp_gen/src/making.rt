@@ -49,7 +49,8 @@ pub(crate) fn make_event<L: Ledger>(
     requires pack { pack.now ≡ deck game.now.table.deck }
     requires funds { game.now.coin ≤ credits }
     requires small { credits < 2 ^ 63 }
-    ensures made { made game.now.table game.now.coin credits state.old ≡ record { event = result; state = state.new } }
+    ensures made { made game.now.table game.now.coin credits state.old
+        ≡ record { event = result; state = state.new } }
     // A payment is at most 500000.
     ensures most { result.credits ≤ credits + 500000 }
     // Not more than the bet is lost.

@@ -1,4 +1,5 @@
--- When a call may answer a fault: the count of faults of the object that was handed in rose in this call.
+-- When a call may answer a fault: the count of faults of the object that was handed in rose in this call. How faults are counted is this
+-- program's own rule.
 use Rattle.std.specs.Prelude.{◌≡◌, ℕ, ◌+◌, ◌-◌, ◌^◌, ◌≤◌, min, Result, OnOk, OnErr}
 
 -- the last value of a count, where it stands still

@@ -1,4 +1,4 @@
--- What a log says, and which logs are in the grammar.
+-- What a log says, and which logs are in the grammar: this program's own (docs/FORMATS.md, The game log).
 use Rattle.std.specs.Prelude.{◌≡◌, ℕ, ◌≤◌, ◌<◌, ◌^◌, Bool, true, ◌&&◌, List, length}
 use Rattle.std.specs.List.{AllByRecursion}
 use Rattle.vp_card.specs.Cards.{in_deck}

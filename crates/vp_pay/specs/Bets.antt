@@ -1,4 +1,4 @@
--- Bets on pay tables.
+-- Bets on pay tables. A bet is a number of coins that the table has a column for, as on the pay table of a machine.
 use Rattle.std.specs.Prelude.{ℕ, ◌≤◌}
 use Rattle.vp_pay.specs.Table.{IsTable}
 use Rattle.vp_pay.specs.declared.table.PayTable.{PayTable}

@@ -1,4 +1,5 @@
--- What a deal is, and what readers of cards and of deals find.
+-- What a deal is, and what readers of cards and of deals find. A deal is five different cards, as dealers state it; its line is this
+-- program's own (docs/FORMATS.md).
 use Rattle.std.specs.Prelude.{◌≡◌, ◌<◌, ℕ, true, List, ◌++◌, length, Option, Some, IfSome}
 use Rattle.vp_card.specs.Cards.{in_deck, all_differ, in_order}
 use Rattle.vp_text.specs.Lines.{Feed, Word}

@@ -1,4 +1,4 @@
--- What the name of a pay table or of a pay line is.
+-- What the name of a pay table or of a pay line is. Names are this program's own (docs/FORMATS.md).
 use Rattle.std.specs.Prelude.{ℕ, Bool, false, ◌&&◌, ◌||◌, ◌==◌, nat_le, List, [], ◌∷◌, length}
 use Rattle.std.specs.List.{list_all}
 

@@ -1,4 +1,4 @@
--- Tests over the numbers below a bound.
+-- Tests over the numbers below a bound. Bounded quantifiers, as in any textbook of logic.
 use Rattle.std.specs.Prelude.{ℕ, Bool}
 use Rattle.std.specs.List.{list_any, list_all, range_with_len}
 

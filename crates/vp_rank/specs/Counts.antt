@@ -1,4 +1,5 @@
--- How many cards have a rank or a suit, and the ten windows of five ranks in a row.
+-- How many cards have a rank or a suit, and the ten windows of five ranks in a row. A straight may begin or end with the ace, as dealers
+-- and pay tables state it.
 use Rattle.std.specs.Prelude.{ℕ, zero, suc, ◌+◌, Bool, nat_le, nat_lt, ◌==◌, ◌&&◌, ◌||◌, List, length, count_by}
 use Rattle.std.specs.Bool.{beq}
 use Rattle.vp_card.specs.Cards.{rank, suit}

@@ -1,4 +1,5 @@
--- The wild cards of a table with a wild rank, or with none, and the other cards of a hand.
+-- The wild cards of a table with a wild rank, or with none, and the other cards of a hand. That jokers and the cards of one rank may be
+-- wild is as dealers and pay tables state it.
 use Rattle.std.specs.Prelude.{ℕ, Bool, false, not, nat_le, ◌==◌, ◌||◌, List, Option, None, Some, filter, count_by}
 use Rattle.vp_card.specs.Cards.{rank}
 

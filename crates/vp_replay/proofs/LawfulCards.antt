@@ -9,12 +9,13 @@ use Rattle.vp_card.specs.Rising.{times}
 use Rattle.vp_card.specs.Cards.{absent, all_differ, in_deck, in_order, held}
 use Rattle.vp_card.proofs.InDeck.{in_deck-in_order}
 use Rattle.vp_card.proofs.Rising.{rising-joined, times-append, times-same}
+use Rattle.vp_sets.specs.Sets.{has}
 use Rattle.vp_sets.proofs.Holds.{Dealt}
 use Rattle.vp_loggram.specs.Logs.{is_of_deck}
 use Rattle.vp_loggram.specs.declared.event.Event.{Event}
 use Rattle.vp_replay.specs.declared.rule.LogRule.{LogRule}
 use Rattle.vp_replay.specs.declared.rule.LogRule.TheVariants.{Deal, Hold, Count, Draw}
-use Rattle.vp_replay.specs.Rules.{among, broken_if, cards_breach, count_breach, deal_breach, draw_breach, first_of, first_wrong, hold_breach, misplaced, wrong_deal, wrong_draw, wrong_hold}
+use Rattle.vp_replay.specs.Rules.{broken_if, cards_breach, count_breach, deal_breach, draw_breach, first_of, first_wrong, hold_breach, misplaced, wrong_deal, wrong_draw, wrong_hold}
 use Rattle.vp_replay.specs.Costs.{hold_of}
 use Rattle.vp_replay.specs.LawfulGames.{AreLawfulCards}
 use Rattle.vp_replay.proofs.Masking.{right_once, none_among, some_among, among_none, holds}
@@ -58,7 +59,7 @@ each_right wrong P front (card ∷ cards) tells none = elim (cases_Bool (wrong f
 ]
 
 -- no card is wrong, where each is right behind earlier ones that it is none of
-none_wrong : (wrong : List ℕ → ℕ → Bool) (P : ℕ → Type 0) (front cards : List ℕ) → ((front : List ℕ) (card : ℕ) → P card → among card front ≡ false → wrong front card ≡ false) → All P cards
+none_wrong : (wrong : List ℕ → ℕ → Bool) (P : ℕ → Type 0) (front cards : List ℕ) → ((front : List ℕ) (card : ℕ) → P card → has front card ≡ false → wrong front card ≡ false) → All P cards
     → ((c : ℕ) → times c (front ++ cards) ≤ 1) → first_wrong wrong front cards ≡ None
 unfolding first_wrong
 none_wrong wrong P front [] right all once = refl
@@ -114,10 +115,10 @@ once_from (card ∷ cards) e c =
 
 -- ---- lawful cards
 
-not_among : (card : ℕ) (cards : List ℕ) → among card cards ≡ false → absent card cards ≡ true
+not_among : (card : ℕ) (cards : List ℕ) → has cards card ≡ false → absent card cards ≡ true
 not_among card cards e = absent_from card cards (none_among card cards e)
 
-absent_among : (card : ℕ) (cards : List ℕ) → absent card cards ≡ true → among card cards ≡ false
+absent_among : (card : ℕ) (cards : List ℕ) → absent card cards ≡ true → has cards card ≡ false
 absent_among card cards e = among_none card cards (times_absent card cards e)
 
 -- how often each card stands in the rows of a lawful game
@@ -129,13 +130,13 @@ pub record AreCounted (deal hold draw : List ℕ) : Type 0 where
 pub counted : (e : Event) → AreLawfulCards e → AreCounted e.deal e.hold.items e.draw.items
 counted e l = record {
   once = once_from e.deal l.deal;
-  within = λ c. elim (cases_Bool (among c e.hold.items)) [
+  within = λ c. elim (cases_Bool (has e.hold.items c)) [
     | inl there ↦
-        let dealt : among c e.deal ≡ true = one_of (λ x. among x e.deal ≡ true) e.hold.items l.dealt c (some_among c e.hold.items there) in
+        let dealt : has e.deal c ≡ true = one_of (λ x. has e.deal x ≡ true) e.hold.items l.dealt c (some_among c e.hold.items there) in
         omega (arith, once_from e.hold.items l.hold c, some_among c e.deal dealt)
     | inr gone ↦ omega (arith, none_among c e.hold.items gone)
   ];
-  drawn = λ c. elim (cases_Bool (among c e.draw.items)) [
+  drawn = λ c. elim (cases_Bool (has e.draw.items c)) [
     | inl there ↦
         let fresh : absent c e.deal ≡ true = one_of (λ x. absent x e.deal ≡ true) e.draw.items l.fresh c (some_among c e.draw.items there) in
         omega (arith, once_from e.draw.items l.draw c, times_absent c e.deal fresh)
@@ -160,11 +161,11 @@ lawful_cards e none =
     let five : (length e.hold.items + length e.draw.items == 5) ≡ true = not-false _ (unbroken (not (length e.hold.items + length e.draw.items == 5)) Count (length e.draw.items) (5 - length e.hold.items) (first_none of_count (of_draw ∷ []) behind_hold)) in
     record {
       deal = differ_from e.deal (right_once wrong_deal [] e.deal (λ front card f. f) deal (λ x. omega arith));
-      hold = differ_from e.hold.items (right_once (wrong_hold e.deal) [] e.hold.items (λ front card f. or_second (not (among card e.deal)) (among card front) f) hold (λ x. omega arith));
-      dealt = each_right (wrong_hold e.deal) (λ x. among x e.deal ≡ true) [] e.hold.items (λ front card f. not-false (among card e.deal) (or_first (not (among card e.deal)) (among card front) f)) hold;
+      hold = differ_from e.hold.items (right_once (wrong_hold e.deal) [] e.hold.items (λ front card f. or_second (not (has e.deal card)) (has front card) f) hold (λ x. omega arith));
+      dealt = each_right (wrong_hold e.deal) (λ x. has e.deal x ≡ true) [] e.hold.items (λ front card f. not-false (has e.deal card) (or_first (not (has e.deal card)) (has front card) f)) hold;
       count = eqb-true _ _ five;
-      draw = differ_from e.draw.items (right_once (wrong_draw e.deal) [] e.draw.items (λ front card f. or_second (among card e.deal) (among card front) f) draw (λ x. omega arith));
-      fresh = each_right (wrong_draw e.deal) (λ x. absent x e.deal ≡ true) [] e.draw.items (λ front card f. not_among card e.deal (or_first (among card e.deal) (among card front) f)) draw;
+      draw = differ_from e.draw.items (right_once (wrong_draw e.deal) [] e.draw.items (λ front card f. or_second (has e.deal card) (has front card) f) draw (λ x. omega arith));
+      fresh = each_right (wrong_draw e.deal) (λ x. absent x e.deal ≡ true) [] e.draw.items (λ front card f. not_among card e.deal (or_first (has e.deal card) (has front card) f)) draw;
     }
 
 -- ---- what lawful cards are
@@ -220,9 +221,9 @@ unfolding cards_breach deal_breach hold_breach count_breach draw_breach
 kept_cards e l =
     let deal : first_wrong wrong_deal [] e.deal ≡ None = none_wrong wrong_deal (λ x. Unit {0}) [] e.deal (λ front card any once. once) (λ k d inside. tt) (once_from e.deal l.deal) in
     let hold : first_wrong (wrong_hold e.deal) [] e.hold.items ≡ None =
-    none_wrong (wrong_hold e.deal) (λ x. among x e.deal ≡ true) [] e.hold.items (λ front card there once. right_hold (among card e.deal) (among card front) there once) l.dealt (once_from e.hold.items l.hold) in
+    none_wrong (wrong_hold e.deal) (λ x. has e.deal x ≡ true) [] e.hold.items (λ front card there once. right_hold (has e.deal card) (has front card) there once) l.dealt (once_from e.hold.items l.hold) in
     let draw : first_wrong (wrong_draw e.deal) [] e.draw.items ≡ None =
-    none_wrong (wrong_draw e.deal) (λ x. absent x e.deal ≡ true) [] e.draw.items (λ front card fresh once. right_draw (among card e.deal) (among card front) (absent_among card e.deal fresh) once) l.fresh (once_from e.draw.items l.draw) in
+    none_wrong (wrong_draw e.deal) (λ x. absent x e.deal ≡ true) [] e.draw.items (λ front card fresh once. right_draw (has e.deal card) (has front card) (absent_among card e.deal fresh) once) l.fresh (once_from e.draw.items l.draw) in
     let of_draw : draw_breach e ≡ None = ap (misplaced Draw) draw in
     let of_count : count_breach e ≡ None = kept_if _ Count (length e.draw.items) (5 - length e.hold.items) (right_count (length e.hold.items + length e.draw.items) 5 l.count) in
     let of_hold : hold_breach e ≡ None = ap (misplaced Hold) hold in

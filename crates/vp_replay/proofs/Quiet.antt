@@ -10,7 +10,8 @@ use Rattle.vp_loggram.specs.Logs.{LogValue}
 use Rattle.vp_loggram.specs.declared.event.Event.{Event}
 use Rattle.vp_replay.specs.declared.summary.Summary.{Summary}
 use Rattle.vp_replay.specs.Costs.{cost_of}
-use Rattle.vp_replay.specs.Summaries.{AllBet, added}
+use Rattle.vp_replay.specs.Adding.{added}
+use Rattle.vp_replay.specs.Summaries.{AllBet}
 use Rattle.vp_replay.proofs.SoFar.{Next, SoFar, next, next_game}
 
 -- a sink that tells nothing

@@ -19,7 +19,8 @@ use Rattle.vp_replay.specs.declared.summary.Summary.{Summary}
 use Rattle.vp_replay.specs.Rules.{break_in, first_break, paid}
 use Rattle.vp_replay.specs.LawfulGames.{IsLawfulEvent}
 use Rattle.vp_replay.specs.Costs.{cost_of}
-use Rattle.vp_replay.specs.Summaries.{added, cost_line, cost_lines, last_credits, slip_of, summary_of}
+use Rattle.vp_replay.specs.Adding.{added}
+use Rattle.vp_replay.specs.Summaries.{cost_line, cost_lines, last_credits, slip_of, summary_of}
 use Rattle.vp_replay.proofs.Runs.{lawful_game, next_lawful}
 
 -- the text of the lines of games, which are counted from this number

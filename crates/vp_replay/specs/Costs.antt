@@ -1,4 +1,4 @@
--- What the hold of a lawful game costs.
+-- What the hold of a lawful game costs: the best expected payment of its deal less that of the hold (vp_draws, Draws).
 use Rattle.std.specs.Prelude.{◌≡◌, ℕ, ◌+◌, ◌-◌, ◌<◌, ◌≤◌}
 use Rattle.vp_card.specs.Cards.{held, in_order}
 use Rattle.vp_pay.specs.declared.table.PayTable.{PayTable}
@@ -22,4 +22,5 @@ pub record IsCost (table : PayTable) (e : Event) (cost : ℕ) : Type 0 where
   pub held : held (hold_of e) (in_order e.deal) ≡ in_order e.hold.items
   pub worth : value table e.bet (in_order e.deal) (hold_of e) + cost ≡ best table e.bet (in_order e.deal)
   pub greatest : (other : ℕ) → other < 32 → value table e.bet (in_order e.deal) other ≤ best table e.bet (in_order e.deal)
-  pub mean : (other : ℕ) → other < 32 → IsMean table.deck (in_order e.deal) other (total table e.bet (in_order e.deal) other) (value table e.bet (in_order e.deal) other)
+  pub mean : (other : ℕ) → other < 32
+      → IsMean table.deck (in_order e.deal) other (total table e.bet (in_order e.deal) other) (value table e.bet (in_order e.deal) other)

@@ -1,17 +1,19 @@
--- What it says that a game breaks no law, and that no game of a log does.
+-- What it says that a game breaks no law, and that no game of a log does: the laws as dealers and pay tables state them, in no order
+-- (docs/FORMATS.md, The game log).
 use Rattle.std.specs.Prelude.{◌≡◌, ℕ, ◌+◌, ◌≤◌, true, List, [], ◌∷◌, length}
 use Rattle.std.specs.List.{All}
 use Rattle.vp_card.specs.Cards.{absent, all_differ}
+use Rattle.vp_sets.specs.Sets.{has}
 use Rattle.vp_pay.specs.declared.table.PayTable.{PayTable}
 use Rattle.vp_loggram.specs.declared.event.Event.{Event}
-use Rattle.vp_replay.specs.Rules.{among, paid}
+use Rattle.vp_replay.specs.Rules.{paid}
 
 -- the cards of a game that breaks no law: no dealt card stands twice; the held ones were dealt, and none stands twice; the drawn ones
 -- were not dealt, and none stands twice; held and drawn ones are five
 pub record AreLawfulCards (e : Event) : Type 0 where
   pub deal : all_differ e.deal ≡ true
   pub hold : all_differ e.hold.items ≡ true
-  pub dealt : All (λ card. among card e.deal ≡ true) e.hold.items
+  pub dealt : All (λ card. has e.deal card ≡ true) e.hold.items
   pub count : length e.hold.items + length e.draw.items ≡ 5
   pub draw : all_differ e.draw.items ≡ true
   pub fresh : All (λ card. absent card e.deal ≡ true) e.draw.items

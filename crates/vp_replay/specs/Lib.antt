@@ -3,3 +3,4 @@ pub mod LawfulGames
 pub mod Columns
 pub mod Costs
 pub mod Summaries
+pub mod Adding

@@ -1,7 +1,9 @@
--- The laws of a game, in the order of testing, and the first that is broken.
+-- The laws of a game, in the order of testing, and the first that is broken. They are the rules of five-card draw as dealers and pay tables
+-- state them: a bet out of the credits, five different cards, a hold of dealt cards, new cards drawn, the line paid. Their order and their
+-- two numbers are this program's own (docs/FORMATS.md, The game log).
 use Rattle.std.specs.Prelude.{ℕ, ◌+◌, ◌-◌, Bool, not, ◌||◌, nat_lt, ◌==◌, List, [], ◌∷◌, ◌++◌, length, Option, Some, None, option_map, if◌then◌else◌}
-use Rattle.std.specs.List.{list_any}
 use Rattle.vp_card.specs.Cards.{in_order}
+use Rattle.vp_sets.specs.Sets.{has}
 use Rattle.vp_pay.specs.declared.table.PayTable.{PayTable}
 use Rattle.vp_wild.specs.Payment.{pay}
 use Rattle.vp_loggram.specs.Logs.{LogValue}
@@ -23,10 +25,6 @@ first_of (Some x ∷ more) = Some x
 
 -- ---- cards
 
--- the card stands among these
-abbrev pub among : ℕ → List ℕ → Bool
-among card cards = list_any (λ other. other == card) cards
-
 -- the first card that is wrong behind the cards before it: its place, counted from 1, and its number
 unfoldable pub first_wrong : (List ℕ → ℕ → Bool) → List ℕ → List ℕ → Option (ℕ × ℕ)
 first_wrong wrong front [] = None
@@ -37,15 +35,15 @@ misplaced rule wrong = option_map (λ card. record { rule = rule; said = card.0;
 
 -- a dealt card is wrong where it equals an earlier one
 abbrev pub wrong_deal : List ℕ → ℕ → Bool
-wrong_deal earlier card = among card earlier
+wrong_deal earlier card = has earlier card
 
 -- a held card is wrong where it was not dealt, or equals an earlier held one
 abbrev pub wrong_hold : List ℕ → List ℕ → ℕ → Bool
-wrong_hold deal earlier card = not (among card deal) || among card earlier
+wrong_hold deal earlier card = not (has deal card) || has earlier card
 
 -- a drawn card is wrong where it was dealt, or equals an earlier drawn one
 abbrev pub wrong_draw : List ℕ → List ℕ → ℕ → Bool
-wrong_draw deal earlier card = among card deal || among card earlier
+wrong_draw deal earlier card = has deal card || has earlier card
 
 -- what a table pays to held and drawn cards
 abbrev pub paid : PayTable → Event → ℕ

@@ -1,4 +1,4 @@
--- What is told of a lawful log.
+-- What is told of a lawful log: this program's own choice of numbers, and its own lines (docs/FORMATS.md, `vpoker replay`).
 use Rattle.std.specs.Prelude.{◌≡◌, ℕ, ◌+◌, Bool, true, ◌&&◌, nat_lt, List, [], ◌∷◌, ◌++◌, length, codes, sum_by, if◌then◌else◌}
 use Rattle.std.specs.Fmt.{decimal}
 use Rattle.std.specs.List.{AllByRecursion}
@@ -47,17 +47,6 @@ summary_of table log = record {
   credits = last_credits log.start log.events;
   slips = sum_by (slip_of table) log.events;
   loss = sum_by (cost_of table) log.events;
-}
-
--- the numbers of games and one more, whose hold has this cost
-abbrev pub added : Summary → Event → ℕ → Summary
-added s e cost = record {
-  games = s.games + 1;
-  bet = s.bet + e.bet;
-  paid = s.paid + e.pay;
-  credits = e.credits;
-  slips = s.slips + (if nat_lt 0 cost then 1 else 0);
-  loss = s.loss + cost;
 }
 
 -- each game bets this much

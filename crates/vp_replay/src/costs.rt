@@ -1,6 +1,7 @@
 //! What the hold of a lawful game costs.
 
 ghost use Rattle.std.specs.Prelude.{◌≡◌, ◌<◌, true, if◌then◌else◌};
+ghost use Rattle.vp_sets.specs.Sets.{has};
 ghost use Rattle.vp_loggram.specs.Logs.{is_of_deck};
 ghost use Rattle.vp_sets.specs.Draws.{mask_of};
 ghost use Rattle.vp_sets.specs.Sets.{has};

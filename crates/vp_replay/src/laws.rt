@@ -13,11 +13,13 @@ ghost use Rattle.vp_replay.specs.Rules.{break_in};
 /// its dealt cards differ, its held ones are some of these, and the drawn ones are as many others as it takes for five;
 /// it is paid what the table pays; and the credits behind it are those before it, less the bet, plus the pay.
 pub fn lawful_logs_keep_the_laws()
-    ensures { (table : PayTable) (log : LogValue) → ((break_in table log ≡ None) ↔ AreLawfulGames table log.start log.events) }
+    ensures { (table : PayTable) (log : LogValue)
+        → ((break_in table log ≡ None) ↔ AreLawfulGames table log.start log.events) }
 {}
 
 /// What a cost is: the best value of the deal is that of the held cards, and the cost; no hold of the deal is worth more;
 /// and each value over the common denominator is the mean payment of its hold over all draws.
 pub fn costs_are_of_the_held_cards()
-    ensures { (table : PayTable) (e : Event) → IsTable table → IsEvent table.deck e → IsLawfulEvent table e → IsCost table e (cost_of table e) }
+    ensures { (table : PayTable) (e : Event) → IsTable table → IsEvent table.deck e → IsLawfulEvent table e
+        → IsCost table e (cost_of table e) }
 {}

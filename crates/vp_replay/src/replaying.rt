@@ -5,7 +5,8 @@ ghost use Rattle.vp_io.specs.Puts.{Puts};
 ghost use Rattle.vp_text.specs.Written.{line_of, written};
 ghost use Rattle.vp_loggram.specs.Logs.{IsLog};
 ghost use Rattle.vp_replay.specs.Rules.{break_in};
-ghost use Rattle.vp_replay.specs.Summaries.{AllBet, added, cost_line, cost_lines, cost_words, replay_lines, summary_of};
+ghost use Rattle.vp_replay.specs.Adding.{added};
+ghost use Rattle.vp_replay.specs.Summaries.{AllBet, cost_line, cost_lines, cost_words, replay_lines, summary_of};
 
 use crate::{Games, Summary, cost, cost_at, put_summary};
 use vp_hold::Game;
@@ -66,7 +67,8 @@ pub fn replay<K: Sink>(
     requires log { IsLog games.now.deck log.now }
     requires lawful { break_in games.now log.now ≡ None }
     // All lines are put; or a proper beginning of them, and a fault is counted.
-    ensures puts { Puts (K.told sink.old) (K.told sink.new) result (written (cost_lines games.now show 1 log.now.events)) }
+    ensures puts { Puts (K.told sink.old) (K.told sink.new) result
+        (written (cost_lines games.now show 1 log.now.events)) }
     ensures summary { IfOk result (λ summary. summary ≡ summary_of games.now log.now) }
 {
     let mut summary = Summary {

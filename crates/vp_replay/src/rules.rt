@@ -4,8 +4,9 @@ ghost use Rattle.std.specs.Prelude.{◌≡◌, ◌≤◌, ◌<◌, ◌+◌, ◌^
 ghost use Rattle.std.specs.Option.{option_map_or};
 ghost use Rattle.vp_pay.specs.Bets.{IsBet};
 ghost use Rattle.vp_pay.specs.Table.{IsTable};
+ghost use Rattle.vp_sets.specs.Sets.{has};
 ghost use Rattle.vp_replay.specs.LawfulGames.{AreLawfulCards};
-ghost use Rattle.vp_replay.specs.Rules.{among, asks_pay, bet_breach, break_of, broken_if, cards_breach, count_breach, credits_breach, deal_breach, draw_breach, first_wrong, funds_breach, hold_breach, paid, pay_breach, wrong_deal, wrong_draw, wrong_hold};
+ghost use Rattle.vp_replay.specs.Rules.{asks_pay, bet_breach, break_of, broken_if, cards_breach, count_breach, credits_breach, deal_breach, draw_breach, first_wrong, funds_breach, hold_breach, paid, pay_breach, wrong_deal, wrong_draw, wrong_hold};
 
 use crate::LogRule;
 use crate::rule::Breach;
@@ -33,8 +34,9 @@ fn broken_if(broken: bool, rule: LogRule, said: u64, due: u64) -> Option<Breach>
     }
 }
 
+#[tactic(auto, unfolding(vp_sets::specs::Sets::has))]
 fn among(card: Card, cards: &[Card]) -> bool
-    ensures { result ≡ among card cards.now }
+    ensures { result ≡ has cards.now card }
 {
     cards.iter().any(|other| *other == card)
 }

@@ -1,4 +1,5 @@
--- Holds of a hand, and sums over all draws.
+-- Holds of a hand, and sums over all draws. The rule is that of five-card draw as dealers state it: any of the five cards are held, and the
+-- others are replaced once out of the cards that were not dealt.
 use Rattle.std.specs.Prelude.{ℕ, zero, suc, ◌+◌, ◌-◌, ◌*◌, ◌/◌, ◌%◌, Bool, if◌then◌else◌, ◌==◌, List, [], ◌∷◌, length, map, fold, sum_by}
 use Rattle.std.specs.List.{list_all}
 use Rattle.vp_card.specs.Cards.{held, joined}

@@ -1,4 +1,5 @@
--- Sets of cards as rising lists, numbered in colex order.
+-- Sets of cards as rising lists, numbered in colex order. Colex order and the index in it, a sum of binomial numbers, are as in any
+-- textbook of combinatorics.
 use Rattle.std.specs.Prelude.{◌≡◌, ℕ, zero, suc, ◌+◌, ◌<◌, List, [], ◌∷◌, ◌++◌, length, map}
 use Rattle.std.specs.List.{All}
 use Rattle.std.specs.List.Sorted.{IsStrictlyIncreasing}

@@ -1,4 +1,4 @@
--- Decks, sublists and their number, and what is in a set.
+-- Decks, sublists and their number, and what is in a set. Sublists and binomial numbers are as in any textbook of combinatorics.
 use Rattle.std.specs.Prelude.{ℕ, zero, suc, ◌+◌, Bool, not, ◌==◌, List, [], ◌∷◌, ◌++◌, map, filter}
 use Rattle.std.specs.List.{list_any}
 

@@ -1,4 +1,4 @@
--- Which sets are parts of which.
+-- Which sets are parts of which. As in any textbook of set theory.
 use Rattle.std.specs.Prelude.{ℕ, Bool, List}
 use Rattle.std.specs.List.{list_all}
 use Rattle.vp_sets.specs.Sets.{has}

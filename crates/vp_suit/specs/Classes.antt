@@ -1,4 +1,5 @@
--- Classes of deals: the images under the turns of the suits, the representative and the weight.
+-- Classes of deals: the images under the turns of the suits, the representative and the weight. Orbits and their least members, as in any
+-- textbook of algebra; the representative is the one of least index.
 use Rattle.std.specs.Prelude.{◌≡◌, ℕ, ◌<◌, Bool, false, List, ◌∷◌, drop, length, map, filter, slice_index, slice_index_or}
 use Rattle.std.specs.List.{position_or_len}
 use Rattle.vp_sets.specs.Sets.{deck}

@@ -1,4 +1,4 @@
--- What the laws of turns and classes say.
+-- What the laws of turns and classes say. A sum over all deals is a sum over classes by weight, as for orbits in any textbook of algebra.
 use Rattle.std.specs.Prelude.{◌≡◌, ℕ, ◌*◌, ◌<◌, ◌≤◌, ◌==◌, true, List, map, sum_by}
 use Rattle.std.specs.List.{All, count_by}
 use Rattle.std.specs.List.Sorted.{IsStrictlyIncreasing}

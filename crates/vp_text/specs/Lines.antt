@@ -1,4 +1,5 @@
--- The lines of a text that have words, each with its number.
+-- The lines of a text that have words, each with its number. The rules of lines and words are this program's own (docs/FORMATS.md, Lines
+-- and words).
 use Rattle.std.specs.Prelude.{◌≡◌, ◌≤◌, ℕ, zero, suc, ◌+◌, Bool, ◌||◌, not, ◌==◌, List, [], ◌∷◌, length, filter, if◌then◌else◌}
 use Rattle.std.specs.List.{slice_split, before_first}
 use Rattle.std.specs.Str.Lines.{strip_carriage_return}

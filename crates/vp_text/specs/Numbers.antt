@@ -1,4 +1,5 @@
--- Numbers that are written in decimal digits.
+-- Numbers that are written in decimal digits. Decimal digits are the usual ones; no sign, no zero in front, is this program's own rule
+-- (docs/FORMATS.md).
 use Rattle.std.specs.Prelude.{ℕ, ◌^◌, ◌&&◌, nat_le, nat_lt, map, Option, Some, None, bytes_eq, if◌then◌else◌}
 use Rattle.std.specs.Fmt.{decimal}
 use Rattle.std.specs.Char.{digit_value}

@@ -1,4 +1,5 @@
--- How words are written: one space between the words of a line, and a line feed at its end.
+-- How words are written: one space between the words of a line, and a line feed at its end. This is this program's own rule
+-- (docs/FORMATS.md).
 use Rattle.std.specs.Prelude.{ℕ, ◌<◌, Bool, ◌||◌, not, ◌==◌, IsTrue, List, [], ◌∷◌, ◌++◌, length, flat_map, if◌then◌else◌}
 use Rattle.std.specs.List.{AllByRecursion}
 use Rattle.vp_text.specs.Lines.{Word, is_blank, is_empty}

@@ -1,4 +1,5 @@
--- What the cards of a hand may stand for: each wild card for any natural card, each other card for itself.
+-- What the cards of a hand may stand for: each wild card for any natural card, each other card for itself. So dealers and pay tables state
+-- the rule of wild cards.
 use Rattle.std.specs.Prelude.{◌≡◌, ℕ, ◌<◌, Bool, true, false, List, [], ◌∷◌, Option}
 use Rattle.std.specs.Bool.{MatchBool}
 use Rattle.vp_rank.specs.Bounded.{some_below}

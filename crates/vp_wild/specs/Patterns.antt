@@ -1,4 +1,5 @@
--- When five faces meet a pattern, and when a hand matches one.
+-- When five faces meet a pattern, and when a hand matches one. The patterns are the usual hands of five cards, as dealers and pay tables
+-- state them, in the words of docs/FORMATS.md (Patterns).
 use Rattle.std.specs.Prelude.{ℕ, Bool, true, false, not, nat_lt, nat_le, ◌==◌, ◌&&◌, List, Option, None, Some}
 use Rattle.std.specs.List.{list_any}
 use Rattle.vp_card.specs.Cards.{rank, has}

@@ -1,4 +1,5 @@
--- Which pay line a hand has, and what it is paid.
+-- Which pay line a hand has, and what it is paid. A hand is paid by one line, the first that it hits, as pay tables are read from the top
+-- (docs/FORMATS.md, The pay table section).
 use Rattle.std.specs.Prelude.{ℕ, ◌-◌, Bool, ◌&&◌, List, Option, position, find, slice_index}
 use Rattle.std.specs.Option.{option_map_or}
 use Rattle.vp_pay.specs.declared.table.PayLine.{PayLine}
