@@ -8,7 +8,7 @@ use Rattle.vp_text.specs.ExactReaders.{Exact, Reader}
 use Rattle.vp_text.specs.Reading.{◌>>=◌, ended, fitting, mapped, nothing, whole}
 use Rattle.vp_text.proofs.Sections.{Exact-nothing}
 use Rattle.vp_text.proofs.Spelled.{ok_is, err_is}
-use Rattle.vp_text.proofs.Whole.{fitted_found, fitted_again, fitted_stops, fitted_refused}
+use Rattle.vp_text.proofs.Fitted.{fitted_found, fitted_again, fitted_stops, fitted_refused}
 use Rattle.vp_pay.specs.Deal.{AreDealtCards}
 use Rattle.vp_pay.specs.Sections.{deal_at, hand_at, table_at}
 use Rattle.vp_pay.specs.Spelling.{deal_text, table_text}

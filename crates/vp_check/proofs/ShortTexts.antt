@@ -1,23 +1,21 @@
 -- How long the text of a certificate may be.
-use Rattle.std.proofs.Common.{◌≡◌, ℕ, zero, suc, mul-suc, true, ◌+◌, ◌*◌, ◌^◌, ◌<◌, ◌≤◌, Option, Some, None, List, [], ◌∷◌, ◌++◌, map, take, length, refl, ap, ◌∙◌, arith, length-append, leb}
+use Rattle.std.proofs.Common.{◌≡◌, ℕ, zero, suc, true, ◌+◌, ◌*◌, ◌^◌, ◌<◌, ◌≤◌, Option, Some, None, List, [], ◌∷◌, ◌++◌, map, take, length, arith, leb}
 use Rattle.std.specs.Prelude.{codes, IfSome, ◌%◌, ◌/◌, ◌==◌, cond, nat_le, ◌&&◌, Bool, false}
 use Rattle.std.specs.Fmt.{decimal}
-use Rattle.std.specs.List.{All, AllByRecursion, list_all, sum_by}
+use Rattle.std.specs.List.{All, AllByRecursion, list_all}
 use Rattle.std.proofs.lemmas.Bool.{eqb-true, leb-true}
 use Rattle.std.proofs.lemmas.Fmt.{length-decimal-le}
 use Rattle.std.proofs.lemmas.List.{length-map}
 use Rattle.std.proofs.lemmas.List.Elements.{recursion_from_All}
-use Rattle.std.proofs.lemmas.List.Sums.{sum_by-append, sum_by-cons}
-use Rattle.std.proofs.lemmas.Grind.{flat_map-append}
 use Rattle.vp_card.specs.Cards.{held, is_rank_set}
 use Rattle.vp_card.specs.Texts.{any_text, card_text, rank_letters, rank_set_text}
 use Rattle.vp_card.proofs.RankSets.{letters_are}
 use Rattle.vp_card.proofs.Texts.{card_text_length}
 use Rattle.vp_text.specs.Lines.{Word}
 use Rattle.vp_text.specs.Sections.{Text}
-use Rattle.vp_text.specs.Written.{line_of, spaced, written}
+use Rattle.vp_text.specs.Written.{written}
 use Rattle.vp_text.proofs.Pieces.{both_true}
-use Rattle.vp_text.proofs.Room.{digits_of_64}
+use Rattle.vp_text.proofs.Room.{digits_of_64, one_word, room, room-append, room-cons, room-nil, room_lines, room_map, two_words, written-append}
 use Rattle.vp_pay.specs.Names.{is_letter, is_name, is_name_byte}
 use Rattle.vp_pay.specs.Spelling.{head_text, kicker_words, pattern_words, pay_line_words, qualifier_word, table_text, wild_word}
 use Rattle.vp_pay.specs.Table.{IsPayLine, IsTable, is_pattern}
@@ -33,47 +31,7 @@ use Rattle.vp_check.specs.Spelling.{cert_text, certificate_text, class_words, re
 use Rattle.vp_check.specs.declared.class_line.ClassLine.{ClassLine}
 use Rattle.vp_check.proofs.FewClasses.{few_classes}
 
--- ---- words, with a byte behind each
-
-pub room : List Word → ℕ
-room words = sum_by (λ word. length word + 1) words
-
-pub room-cons : (word : Word) (words : List Word) → room (word ∷ words) ≡ length word + 1 + room words
-unfolding room
-room-cons word words = sum_by-cons (λ word. length word + 1) word words
-
-pub room-nil : room [] ≡ 0
-unfolding room
-room-nil = refl
-
-pub room-append : (a b : List Word) → room (a ++ b) ≡ room a + room b
-unfolding room
-room-append a b = sum_by-append (λ word. length word + 1) a b
-
-room_spaced : (words : List Word) → length (spaced words) ≤ room words
-unfolding room
-room_spaced [] = omega arith
-room_spaced (word ∷ []) = omega arith
-room_spaced (word ∷ next ∷ more) =
-    omega (arith, room_spaced (next ∷ more), length-append word (32 ∷ spaced (next ∷ more)), sum_by-cons (λ word. length word + 1) word (next ∷ more))
-
-room_line : (words : List Word) → length (line_of words) ≤ room words + 1
-room_line words = omega (arith, room_spaced words, length-append (spaced words) (10 ∷ []))
-
-pub room_lines : (k : ℕ) (text : Text) → AllByRecursion (λ words. room words < k) text → length (written text) ≤ k * length text
-room_lines k [] all = omega arith
-room_lines k (words ∷ text) all =
-    let many : k * length (words ∷ text) ≡ k + k * length text = let n = length text in omega (arith, times_suc k n) in
-    omega (arith, room_line words, all.0, room_lines k text all.1, length-append (line_of words) (written text), many)
-  where
-    times_suc : (k n : ℕ) → k * suc n ≡ k + k * n
-    times_suc k n = mul-suc k n ∙ omega arith
-
 -- ---- class lines
-
-pub room_cards : (cards : List ℕ) → room (map card_text cards) ≡ 3 * length cards
-room_cards [] = room-nil
-room_cards (card ∷ cards) = omega (arith, room-cons (card_text card) (map card_text cards), card_text_length card, room_cards cards)
 
 room_class : (n : ℕ) (line : ClassLine) → IsClassLine n line → room (class_words line) < 49
 unfolding class_words
@@ -88,7 +46,7 @@ room_class n line is =
       mask,
       value,
       is.deal.five,
-      room_cards line.hand,
+      room_map card_text 2 card_text_length line.hand,
       room-cons (codes "class") (map card_text line.hand ++ numbers),
       room-append (map card_text line.hand) numbers,
       room-cons (decimal line.weight) (decimal line.mask ∷ decimal line.value ∷ []),
@@ -128,9 +86,6 @@ room_ranks set =
 room_kicker : (kicker : Option ℕ) → room (kicker_words kicker) ≤ 21
 room_kicker None = omega (arith, room-nil)
 room_kicker (Some set) = omega (arith, room-cons (codes "kicker") (rank_set_text set ∷ []), room-cons (rank_set_text set) [], room-nil, room_ranks set)
-
-pub one_word : (word : Word) → room (word ∷ []) ≡ length word + 1
-one_word word = omega (arith, room-cons word [], room-nil)
 
 with_ranks : (word : Word) (set : ℕ) (more : List Word) → room (word ∷ rank_set_text set ∷ more) ≤ length word + 15 + room more
 with_ranks word set more = omega (arith, room-cons word (rank_set_text set ∷ more), room-cons (rank_set_text set) more, room_ranks set)
@@ -192,9 +147,6 @@ room_wild : (wild : Option ℕ) → length (wild_word wild) ≤ 4
 room_wild None = omega arith
 room_wild (Some rank) = omega arith
 
-pub two_words : (a b : Word) → room (a ∷ b ∷ []) ≡ length a + length b + 2
-two_words a b = omega (arith, room-cons a (b ∷ []), one_word b)
-
 room_head : (t : PayTable) → IsTable t → AllByRecursion (λ words. room words < 300) (head_text t)
 room_head t is =
     let name = room_name t.name is.name in
@@ -203,9 +155,6 @@ room_head t is =
       omega (arith, two_words (codes "table") t.name),
       (omega (arith, two_words (codes "deck") (decimal t.deck)), (omega (arith, two_words (codes "wild") (wild_word t.wild), room_wild t.wild), (omega (arith, two_words (codes "coins") (decimal t.coins)), tt))),
     )
-
-pub written-append : (a b : Text) → length (written (a ++ b)) ≡ length (written a) + length (written b)
-written-append a b = ap length (flat_map-append line_of a b) ∙ length-append (written a) (written b)
 
 -- a table has at most 37 lines
 pub short_table : (t : PayTable) → IsTable t → length (written (table_text t)) ≤ 11100

@@ -21,7 +21,7 @@ use Rattle.vp_csv.specs.Sessions.{Session, behind_first, games_of, log_of, or_ze
 use Rattle.vp_csv.specs.Kept.{AreKept, IsKept, Kept, closed, kept_in, kept_of, log_in, open_text, said_by, sorted_of, start_line}
 use Rattle.vp_csv.proofs.Counts.{few_events, few_records}
 use Rattle.vp_csv.proofs.RecordLaws as laws
-use Rattle.vp_csv.proofs.Sizes.{log_short}
+use Rattle.vp_csv.proofs.Sizes.{log_most}
 
 -- ---- the logs of sessions are in the grammar
 
@@ -83,13 +83,19 @@ says_all : (n : ℕ) (rs : List Record) (names : List Word) → IsDeck n → map
 says_all n rs [] deck = refl
 says_all n rs (name ∷ names) deck = rw (says n rs name deck, says_all n rs names deck) refl
 
-is_kept : (n : ℕ) (rs : List Record) (name : Word) → IsDeck n → length rs ≤ 400000 → IsKept n (closed (kept_of n rs name))
+-- how long the text of a session's log is
+pub log_short : (n : ℕ) (rs : List Record) (name : Word) → length rs ≤ 400000 → length (written (log_text (log_of n (own name rs)))) ≤ 60000000
 unfolding start_line
+log_short n rs name few =
+    let log = log_of n (own name rs) in
+    rw (← ended log) (log_most n log (is_log n (own name rs)) (few_events n name rs few))
+
+is_kept : (n : ℕ) (rs : List Record) (name : Word) → IsDeck n → length rs ≤ 400000 → IsKept n (closed (kept_of n rs name))
 is_kept n rs name deck few =
     let log = log_of n (own name rs) in
     let is = is_log n (own name rs) in
     let read = log_read n log deck is in
-    let short : length (written (log_text log)) < 67108864 = rw (← ended log) (log_short n log is (few_events n name rs few)) in
+    let short : length (written (log_text log)) < 67108864 = omega (arith, log_short n rs name few) in
     let k : Kept = record { name = name; text = written (log_text log) } in
     let kept : IsKept n k = record { log = rw read is; spelled = ap (λ (l : LogValue). written (log_text l)) (sym read); short = short } in
     subst (IsKept n) (sym (closed_is n rs name)) kept
@@ -112,6 +118,10 @@ behind n (r ∷ rs) none = by_test (is_header r) none
     by_test : (b : Bool) → (if b then break_behind n [] rs else Some 1) ≡ None → break_behind n [] rs ≡ None
     by_test true e = e
     by_test false e = absurd cc
+
+-- records that keep their rules are at most 400000
+pub few_games : (n : ℕ) (all : List Record) → first_break n all ≡ None → length (behind_first all) ≤ 400000
+few_games n all none = (few_records n (behind_first all) (behind n all none)).records
 
 pub are_kept : (n : ℕ) (all : List Record) (ks : List Kept) → IsDeck n → first_break n all ≡ None → ks ≡ map closed (kept_in n (behind_first all)) → AreKept n ks
 unfolding kept_in

@@ -2,7 +2,7 @@
 use Rattle.std.proofs.Common.{◌≡◌, ℕ, Bool, List, Ok, Err}
 use Rattle.std.specs.Prelude.{◌↔◌}
 use Rattle.vp_text.specs.Lines.{feed_of}
-use Rattle.vp_text.proofs.Whole.{fitted_found, fitted_again, fitted_stops, fitted_refused}
+use Rattle.vp_text.proofs.Fitted.{fitted_found, fitted_again, fitted_stops, fitted_refused}
 use Rattle.vp_pay.specs.Sections.{table_at}
 use Rattle.vp_pay.specs.Spelling.{table_text}
 use Rattle.vp_pay.specs.Table.{IsTable}

@@ -14,7 +14,7 @@ use Rattle.vp_text.specs.Sections.{Text, text_of}
 use Rattle.vp_text.specs.Written.{IsPlainLine, IsPlainWord, is_plain, line_of, spaced, written}
 use Rattle.vp_text.proofs.Comments.{comment_read}
 use Rattle.vp_text.proofs.PlainWords.{plain_key, plain_number}
-use Rattle.vp_text.proofs.Room.{digits_of_64}
+use Rattle.vp_text.proofs.Room.{digits_of_64, room, room-cons, room_lines, two_words}
 use Rattle.vp_text.proofs.Writing.{written_read}
 use Rattle.vp_pay.specs.Spelling.{table_text}
 use Rattle.vp_pay.specs.declared.table.PayTable.{PayTable}
@@ -31,7 +31,7 @@ use Rattle.vp_compile.specs.Orders.{exchange}
 use Rattle.vp_compile.specs.Rows.{Row, row_at, value_loss}
 use Rattle.vp_compile.proofs.OrderLaws.{order_kept_at}
 use Rattle.vp_check.proofs.FewClasses.{few_classes}
-use Rattle.vp_check.proofs.ShortTexts.{room, room-cons, room_lines, short_table, two_words, written-append}
+use Rattle.vp_check.proofs.ShortTexts.{short_table}
 use Rattle.vp_suit.specs.Laws.{deals}
 use Rattle.vp_audit.specs.Audits.{audited, loss}
 use Rattle.vp_audit.specs.Masked.{masked_list}

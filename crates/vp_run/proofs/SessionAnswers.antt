@@ -1,5 +1,5 @@
 -- What `sessions` answers to a pay table and a CSV text.
-use Rattle.std.proofs.Common.{◌≡◌, ◌<◌, ◌==◌, ℕ, if◌then◌else◌, Bool, true, false, List, [], ◌∷◌, ◌++◌, refl, sym, ap, subst, ◌∙◌, arith, inl, inr, append-nil, append_assoc, Option, Some, None}
+use Rattle.std.proofs.Common.{◌≡◌, ◌<◌, ◌≤◌, ◌==◌, ℕ, if◌then◌else◌, Bool, true, false, List, [], ◌∷◌, ◌++◌, length, refl, sym, ap, subst, ◌∙◌, arith, inl, inr, append-nil, append_assoc, Option, Some, None}
 use Rattle.std.specs.Prelude.{◌↔◌, ◌⊎◌, ◌||◌, Ok, bytes_eq, codes, flat_map, is_some, map}
 use Rattle.std.specs.List.{AllByRecursion}
 use Rattle.std.proofs.lemmas.Grind.{flat_map-append}
@@ -8,6 +8,7 @@ use Rattle.std.proofs.lemmas.Slice.Eq.{bytes_eq-Decides}
 use Rattle.vp_text.specs.Lines.{Word, feed_of}
 use Rattle.vp_text.specs.Sections.{Text, text_of}
 use Rattle.vp_text.specs.Written.{line_of, written}
+use Rattle.vp_text.proofs.Room.{written-append}
 use Rattle.vp_text.proofs.Spelled.{text_of-append}
 use Rattle.vp_text.proofs.Writing.{written_read}
 use Rattle.vp_pay.specs.Spelling.{table_text}
@@ -18,11 +19,12 @@ use Rattle.vp_pay.proofs.Plain.{plain_table}
 use Rattle.vp_loggram.specs.Logs.{IsLog, LogValue}
 use Rattle.vp_loggram.specs.Spelling.{log_text}
 use Rattle.vp_loggram.proofs.Log_laws.{written_again}
-use Rattle.vp_csv.specs.Records.{Record}
+use Rattle.vp_csv.specs.Records.{Record, records_in}
 use Rattle.vp_csv.specs.Rules.{knows, names_of, refused_record}
-use Rattle.vp_csv.specs.Sessions.{Session, log_of, own, session_of, sessions_in, sessions_of}
-use Rattle.vp_csv.proofs.Closing.{is_log}
+use Rattle.vp_csv.specs.Sessions.{Session, own, session_of, sessions_in, sessions_of}
+use Rattle.vp_csv.proofs.Closing.{few_games, is_log, log_short}
 use Rattle.vp_csv.proofs.Isolation.{apart}
+use Rattle.vp_check.proofs.ShortTexts.{short_table}
 use Rattle.vp_replay.specs.Rules.{break_in}
 use Rattle.vp_replay.specs.declared.rule.Broken.{Broken}
 use Rattle.vp_answer.specs.Answers.{Answer, answer_read}
@@ -32,7 +34,7 @@ use Rattle.vp_run.specs.Answer.{answer, job_answer, judged_log, read_as, session
 use Rattle.vp_run.specs.Commands.{command_of}
 use Rattle.vp_run.specs.Replay.{replay_input}
 use Rattle.vp_run.specs.Sessions.{Mixed, by_record, judged, log_answer, session_text, sessions_answer, sessions_input, sessions_text, status_by, unlawful}
-use Rattle.vp_run.specs.SessionsTold.{AreApart, HasLines, IsReplayedAlone, NamesRecord, SessionsAreApart, SessionsAreReplayed, TellsSessions, games_in, lines_of, log_file}
+use Rattle.vp_run.specs.SessionsTold.{HasLines, IsReplayedAlone, NamesRecord, SessionsAreApart, SessionsAreReplayed, TellsSessions, games_in, lines_of, log_file}
 use Rattle.vp_run.specs.declared.command.Command.TheVariants.{Over}
 use Rattle.vp_run.specs.declared.command.Task.TheVariants.{Replay, Sessions}
 use Rattle.vp_run.proofs.NoCommand.{answer_as}
@@ -74,22 +76,28 @@ finding_is : (table : PayTable) (log : LogValue) (o : Option Broken) → is_some
 finding_is table log None = (λ e. absurd cc, λ e. absurd cc)
 finding_is table log (Some b) = (λ e. refl, λ e. refl)
 
-alone : (table : PayTable) (s : Session) → IsTable table → IsLog table.deck s.log → IsReplayedAlone table s
-alone table s rules is = record {
+-- and it is short enough to be read
+file_short : (table : PayTable) (log : LogValue) → IsTable table → length (written (log_text log)) ≤ 60000000 → length (log_file table log) ≤ 67108864
+file_short table log rules short = omega (arith, written-append (table_text table) (log_text log), short_table table rules, short)
+
+alone : (table : PayTable) (s : Session) → IsTable table → IsLog table.deck s.log → length (written (log_text s.log)) ≤ 60000000 → IsReplayedAlone table s
+alone table s rules is short = record {
   log = is;
+  short = file_short table s.log rules short;
   lines = λ words asks. session_lines table s ∙ ap (λ (a : Answer). line_of (codes "session" ∷ s.name ∷ []) ++ a.text) (sym (replayed table s.log words rules is asks));
   judged = λ words asks.
       subst (λ (a : Answer). is_some (break_in table s.log) ≡ true ↔ (a.status ≡ Finding)) (sym (replayed table s.log words rules is asks)) (finding_is table s.log (break_in table s.log));
 }
 
-all_alone : (table : PayTable) (rs : List Record) (names : List Word) → IsTable table → AllByRecursion (IsReplayedAlone table) (map (session_of table.deck rs) names)
+all_alone : (table : PayTable) (rs : List Record) (names : List Word) → IsTable table → length rs ≤ 400000 → AllByRecursion (IsReplayedAlone table) (map (session_of table.deck rs) names)
 unfolding session_of
-all_alone table rs [] rules = tt
-all_alone table rs (name ∷ names) rules = (alone table (session_of table.deck rs name) rules (is_log table.deck (own name rs)), all_alone table rs names rules)
+all_alone table rs [] rules few = tt
+all_alone table rs (name ∷ names) rules few =
+    (alone table (session_of table.deck rs name) rules (is_log table.deck (own name rs)) (log_short table.deck rs name few), all_alone table rs names rules few)
 
-each_alone : (table : PayTable) (csv : List ℕ) → IsTable table → AllByRecursion (IsReplayedAlone table) (sessions_of table.deck csv)
-unfolding sessions_of sessions_in
-each_alone table csv rules = all_alone table (games_in csv) (names_of (games_in csv)) rules
+each_alone : (table : PayTable) (csv : List ℕ) → IsTable table → refused_record table.deck csv ≡ None → AllByRecursion (IsReplayedAlone table) (sessions_of table.deck csv)
+unfolding refused_record sessions_of sessions_in
+each_alone table csv rules kept = all_alone table (games_in csv) (names_of (games_in csv)) rules (few_games table.deck (records_in csv) kept)
 
 -- ---- the answer
 
@@ -136,7 +144,7 @@ by_first table csv due None rules kept is =
       text = ap (λ (a : Answer). a.text) (sym is);
       finding = subst (λ (a : Answer). a.status ≡ Finding ↔ 0 < count) is (finding_counts count);
       lawful = subst (λ (a : Answer). a.status ≡ Done ↔ (count ≡ 0)) is (done_counts count);
-      alone = each_alone table csv rules;
+      alone = each_alone table csv rules kept;
     })
 
 answer_is : (m : Mixed) → by_record m (refused_record m.table.deck m.csv) ≡ sessions_answer m

@@ -6,10 +6,11 @@ use Rattle.std.specs.List.{All, AllByRecursion}
 use Rattle.std.proofs.lemmas.List.{length-map}
 use Rattle.std.proofs.lemmas.List.Elements.{All-get_or, All-map, All-weaker, recursion_from_All}
 use Rattle.vp_card.specs.Texts.{card_text, rank_set_text}
+use Rattle.vp_card.proofs.Texts.{card_text_length}
 use Rattle.vp_text.specs.Lines.{Word}
 use Rattle.vp_text.specs.Sections.{Text}
 use Rattle.vp_text.specs.Written.{written}
-use Rattle.vp_text.proofs.Room.{digits_of_64}
+use Rattle.vp_text.proofs.Room.{digits_of_64, one_word, room, room-append, room-cons, room-nil, room_lines, room_map, two_words, written-append}
 use Rattle.vp_pay.specs.Table.{IsPayLine, IsTable}
 use Rattle.vp_pay.specs.Names.{is_name}
 use Rattle.vp_pay.specs.declared.table.PayLine.{PayLine}
@@ -20,7 +21,7 @@ use Rattle.vp_rule.specs.Valid.{IsException, IsList, IsRule, IsTest}
 use Rattle.vp_rule.specs.declared.rule.Rule.{Rule}
 use Rattle.vp_rule.specs.declared.rule.Test.{Test}
 use Rattle.vp_rule.specs.declared.rule.Test.TheVariants.{Hold, Wilds, Suited, Mixed, Royal, Windows, Count, Equal, Ranks, Made, Left, LeftSuit}
-use Rattle.vp_check.proofs.ShortTexts.{one_word, room, room-append, room-cons, room-nil, room_cards, room_lines, room_name, room_ranks, two_words, written-append}
+use Rattle.vp_check.proofs.ShortTexts.{room_name, room_ranks}
 
 -- ---- rules
 
@@ -85,7 +86,7 @@ room_except n e is =
       arith,
       room-cons (codes "except") (map card_text e.0 ++ decimal e.1 ∷ []),
       room-append (map card_text e.0) (decimal e.1 ∷ []),
-      room_cards e.0,
+      room_map card_text 2 card_text_length e.0,
       is.deal.five,
       one_word (decimal e.1),
       number_room e.1 (omega (arith, is.mask)),

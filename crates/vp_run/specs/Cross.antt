@@ -1,10 +1,9 @@
 -- `cross`: what its input says, and what it prints.
-use Rattle.std.specs.Prelude.{◌≡◌, ℕ, ◌-◌, Bool, ◌&&◌, ◌==◌, IsTrue, List, [], ◌∷◌, ◌++◌, map, Option, None, Some, Result, Ok, Err, codes, if◌then◌else◌, ◌⊎◌}
+use Rattle.std.specs.Prelude.{◌≡◌, ℕ, ◌-◌, Bool, ◌&&◌, ◌==◌, IsTrue, List, [], ◌∷◌, ◌++◌, map, Option, None, Some, Result, codes, ◌⊎◌}
 use Rattle.std.specs.Fmt.{decimal}
 use Rattle.vp_card.specs.Texts.{card_text}
-use Rattle.vp_text.specs.ExactReaders.{Reader}
 use Rattle.vp_text.specs.Lines.{feed_of}
-use Rattle.vp_text.specs.Reading.{◌>>=◌}
+use Rattle.vp_text.specs.Reading.{fitted}
 use Rattle.vp_text.specs.Sections.{AreBoth, IsWhole, Misfit, RefusedLine, Text, both_text}
 use Rattle.vp_pay.specs.Bets.{IsBet}
 use Rattle.vp_pay.specs.Sections.{table_at}
@@ -21,12 +20,6 @@ use Rattle.vp_run.specs.Deal.{fraction, has_bet}
 -- the second table has the deck of the first, and a column for the bet
 abbrev pub crosses : ℕ → PayTable → PayTable → Bool
 crosses coin played priced = (priced.deck == played.deck) && has_bet coin priced
-
--- a section that has to fit, and is refused at its last line
-abbrev pub fitted : {A : Type 0} → (A → Bool) → Reader A → Reader A
-fitted fits read feed = do
-  a ← read feed
-  if fits a.0 then Ok a else Err a.1.last
 
 -- what an input of `cross` says: a pay table that has the bet, then a second one that fits it, and nothing else; or the line where it is
 -- refused

@@ -1,5 +1,5 @@
 -- What the answer of `sessions` tells.
-use Rattle.std.specs.Prelude.{◌≡◌, ◌↔◌, ◌⊎◌, ◌<◌, ℕ, true, List, [], ◌∷◌, ◌++◌, Option, Some, None, Ok, codes}
+use Rattle.std.specs.Prelude.{◌≡◌, ◌↔◌, ◌⊎◌, ◌<◌, ◌≤◌, ℕ, true, List, [], ◌∷◌, ◌++◌, length, Option, Some, None, Ok, codes}
 use Rattle.std.specs.List.{AllByRecursion}
 use Rattle.vp_text.specs.Lines.{Word}
 use Rattle.vp_text.specs.Written.{line_of, written}
@@ -24,10 +24,11 @@ use Rattle.vp_run.specs.declared.command.Task.TheVariants.{Replay, Sessions}
 abbrev pub log_file : PayTable → LogValue → List ℕ
 log_file table log = written (table_text table ++ log_text log)
 
--- the lines of a session are its name, and the answer of `replay` to the pay table and its log alone; it is unlawful where that is a
--- finding
+-- what is written of the pay table and the log of a session is short enough to be an input of `replay`; the lines of the session are its
+-- name, and the answer of `replay` to it; it is unlawful where that is a finding
 pub record IsReplayedAlone (table : PayTable) (s : Session) : Type 0 where
   pub log : IsLog table.deck s.log
+  pub short : length (log_file table s.log) ≤ 67108864
   pub lines : (words : List Word) → command_of words ≡ Some (Over Replay)
       → session_text table s ≡ line_of (codes "session" ∷ s.name ∷ []) ++ (answer words (log_file table s.log)).text
   pub judged : (words : List Word) → command_of words ≡ Some (Over Replay)

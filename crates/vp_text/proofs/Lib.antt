@@ -5,6 +5,8 @@ pub mod Sections
 pub mod Joined
 pub mod Rows
 pub mod Whole
+pub mod Fitted
+pub mod Refusals
 pub mod Writing
 pub mod Comments
 pub mod Room

@@ -95,7 +95,14 @@ mapped see read feed = do
 abbrev pub closed : {I : Type 0} → Word → (List I → Bool) → (List I → List Word → Option I) → Reader (List I)
 closed word may_close item_of = mapped (λ value. value.0) (rows (closed_by word may_close item_of))
 
--- ---- a section that has to fit before the next is read; it is refused at its last line
+-- ---- a section that has to fit; it is refused at its last line
+
+abbrev pub fitted : {A : Type 0} → (A → Bool) → Reader A → Reader A
+fitted fits read feed = do
+  a ← read feed
+  if fits a.0 then Ok a else Err a.1.last
+
+-- ---- the same, and then one that depends on its value
 
 abbrev pub fitting : {A B : Type 0} → (A → Bool) → Reader A → (A → Reader B) → Reader (A × B)
 fitting fits first second feed = do

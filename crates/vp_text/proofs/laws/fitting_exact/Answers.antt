@@ -1,5 +1,5 @@
 use Rattle.std.proofs.Common.{IsTrue}
-use Rattle.vp_text.proofs.Whole.{fitted_found, fitted_again, fitted_stops, fitted_refused}
+use Rattle.vp_text.proofs.Fitted.{fitted_found, fitted_again, fitted_stops, fitted_refused}
 use Rattle.vp_text.proofs.laws.fitting_exact.Goals as goal
 
 pub returns-clause-value : goal.returns-clause-value
