@@ -3,7 +3,7 @@ use Rattle.std.proofs.Common.{Bor, ◌≡◌, ℕ, suc, ◌+◌, List, [], ◌�
 use Rattle.std.specs.Prelude.{not, ◌&&◌, ◌==◌, ◌++◌, drop, take, if◌then◌else◌}
 use Rattle.std.proofs.lemmas.Bool.{cases_Bool}
 use Rattle.csv.specs.Machine.{Read, next_record}
-use Rattle.csv.specs.Reading.{records_from, source_of, unread_of, default_config, ReadRecord, ReadsOn, Ready, Reached, strip_bom, has_failed, reader_trim, took_first}
+use Rattle.csv.specs.Reading.{records_from, source_of, unread_of, default_config, ReadRecord, ReadsOn, Ready, Reached, strip_bom, has_failed, is_flexible, reader_trim, took_first}
 use Rattle.csv.specs.declared.reader.Reader.{Reader}
 use Rattle.csv.specs.declared.parser.State.{State}
 use Rattle.csv.specs.declared.reader.Trim.TheVariants as trim
@@ -80,13 +80,13 @@ steps a b false f keeps bad reads = elim (cases_Bool (has_failed a)) [
   | inr good ↦ let k = known a good in let set = keeps good in step_false a b f k.0 set k.1 (reads set.plain set.ready)
 ]
 
-pub keeps_ok : (a b : Reader (Bor (List ℕ))) (found : Bool) (f : Record) → Keeps a → has_failed b ≡ has_failed a
+pub keeps_ok : (a b : Reader (Bor (List ℕ))) (found : Bool) (f : Record) → Keeps a → has_failed b ≡ has_failed a → is_flexible b ≡ is_flexible a
     → (reader_trim a ≡ trim.None → took_first b ≡ true) → (reader_trim a ≡ trim.None → Ready a → ReadRecord rem a b found f) → Keeps b
 unfolding Keeps
-keeps_ok a b found f keeps same first reads good =
+keeps_ok a b found f keeps same lengths first reads good =
     let set = keeps (sym same ∙ good) in
     let r = reads set.plain set.ready in
-    record { plain = r.3 ∙ set.plain; ready = inl (first set.plain); config = r.2 ∙ set.config }
+    record { plain = r.3 ∙ set.plain; ready = inl (first set.plain); config = r.2 ∙ set.config; flexible = lengths ∙ set.flexible }
 
 pub keeps_err : (a b : Reader (Bor (List ℕ))) (stops : Bool) → Keeps a → (has_failed a ≡ true → ⊥) → has_failed b ≡ stops → (stops ≡ false → ReadsOn a b) → Keeps b
 unfolding Keeps
@@ -95,5 +95,5 @@ keeps_err a b stops keeps none fails on good = elim (cases_Bool (has_failed a)) 
   | inr fine ↦
       let set = keeps fine in
       let r = on (sym fails ∙ good) in
-      record { plain = r.1 ∙ set.plain; ready = (r.4 set.ready).0; config = r.0 ∙ set.config }
+      record { plain = r.1 ∙ set.plain; ready = (r.4 set.ready).0; config = r.0 ∙ set.config; flexible = r.2 ∙ set.flexible }
 ]

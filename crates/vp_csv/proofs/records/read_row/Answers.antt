@@ -12,7 +12,7 @@ returns-in_default-clause-keeps c =
 pub returns-clause-keeps : goal.returns-clause-keeps
 returns-clause-keeps c =
     let e = c.in-Ok.ensures in
-    keeps_ok c.args.reader.now c.read_byte_record.new.self c.in-Ok.found (fields_of c.read_byte_record.new.row) c.requires e.goes e.ready e.reads
+    keeps_ok c.args.reader.now c.read_byte_record.new.self c.in-Ok.found (fields_of c.read_byte_record.new.row) c.requires e.goes e.flexible e.ready e.reads
 
 pub returns-clause-steps : goal.returns-clause-steps
 returns-clause-steps c =

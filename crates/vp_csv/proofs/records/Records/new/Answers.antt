@@ -17,4 +17,5 @@ invariant_of-result c = λ good.
       plain = fr.trim ∙ rw (e, h) c.new.ensures.trim;
       ready = inr (inr (fr.has_headers ∙ rw (e, h) refl, fr.headers));
       config = fr.config ∙ rw (e, h) c.new.ensures.config;
+      flexible = fr.flexible ∙ rw e refl;
     }
