@@ -13,7 +13,7 @@ use vp_pay::PayTable;
 /// How often the lines of a table come under the printed holds, over the number of deals times the common denominator.
 #[derive(Clone, Copy, Debug, PartialEq, Eq)]
 pub struct LineCounts {
-    /// Of each line, by its place.
+    /// Of each line, by its place. What stands behind the lines of the table means nothing.
     pub lines: [u128; 34],
     /// Of the hands that hit no line.
     pub none: u128,
