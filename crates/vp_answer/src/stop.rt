@@ -7,6 +7,7 @@ ghost use Rattle.vp_answer.specs.Answers.{finding, record_refusal, refusal};
 use crate::{Rule, Status};
 use vp_io::{Sink, WriteFault};
 use vp_lines::{Word, put_words};
+use vp_text::Refused;
 
 /// Where an input is stopped at.
 #[derive(Clone, Copy, Debug, PartialEq, Eq)]
@@ -57,6 +58,17 @@ impl Stop {
                 due,
             } => put_finding(at, rule, said, due, sink),
         }
+    }
+}
+
+impl From<Refused> for Stop {
+    ghost use Rattle.std.specs.Prelude.{◌≡◌};
+    ghost use Rattle.vp_answer.specs.declared.stop.Stop.TheVariants.{Refused as RefusedAt};
+
+    ghost from_gives = { λ refused stop. stop ≡ RefusedAt refused.line };
+
+    fn from(refused: Refused) -> Stop {
+        Stop::Refused { line: refused.line }
     }
 }
 

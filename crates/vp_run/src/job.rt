@@ -137,10 +137,8 @@ fn deal_job(coin: u8, bytes: &[u8]) -> Result<Job<'_>, Stop>
     requires limit { length bytes.now ≤ 67108864 }
     ensures { result ≡ read_as (deal_job coin) (deal_input coin bytes.now) }
 {
-    match read_deal_input(bytes, coin) {
-        Ok((table, hand)) => Ok(Job::Deal(DealJob::new(table, coin, hand))),
-        Err(refused) => Err(Stop::Refused { line: refused.line }),
-    }
+    let (table, hand) = read_deal_input(bytes, coin)?;
+    Ok(Job::Deal(DealJob::new(table, coin, hand)))
 }
 
 fn certify_job(coin: u8, bytes: &[u8]) -> Result<Job<'_>, Stop>
@@ -148,10 +146,8 @@ fn certify_job(coin: u8, bytes: &[u8]) -> Result<Job<'_>, Stop>
     requires limit { length bytes.now ≤ 67108864 }
     ensures { result ≡ read_as (certify_job coin) (certify_input coin bytes.now) }
 {
-    match read_certify_input(bytes, coin) {
-        Ok(table) => Ok(Job::Certify(CertifyJob::new(table, coin))),
-        Err(refused) => Err(Stop::Refused { line: refused.line }),
-    }
+    let table = read_certify_input(bytes, coin)?;
+    Ok(Job::Certify(CertifyJob::new(table, coin)))
 }
 
 fn meter_job<'a>(coin: u8, name: &Name, lo: u32, hi: u32, bytes: &'a [u8]) -> Result<Job<'a>, Stop>
@@ -161,10 +157,8 @@ fn meter_job<'a>(coin: u8, name: &Name, lo: u32, hi: u32, bytes: &'a [u8]) -> Re
     requires limit { length bytes.now ≤ 67108864 }
     ensures { result ≡ read_as (meter_job coin name.now lo hi) (meter_input coin name.now bytes.now) }
 {
-    match read_meter_input(bytes, coin, name) {
-        Ok((table, line)) => Ok(Job::Meter(MeterJob::new(table, coin, line, lo, hi))),
-        Err(refused) => Err(Stop::Refused { line: refused.line }),
-    }
+    let (table, line) = read_meter_input(bytes, coin, name)?;
+    Ok(Job::Meter(MeterJob::new(table, coin, line, lo, hi)))
 }
 
 fn multi_job(coin: u8, hands: u8, bytes: &[u8]) -> Result<Job<'_>, Stop>
@@ -174,10 +168,8 @@ fn multi_job(coin: u8, hands: u8, bytes: &[u8]) -> Result<Job<'_>, Stop>
     requires limit { length bytes.now ≤ 67108864 }
     ensures { result ≡ read_as (multi_job coin hands) (multi_input coin bytes.now) }
 {
-    match read_certify_input(bytes, coin) {
-        Ok(table) => Ok(Job::Multi(MultiJob::new(table, coin, hands))),
-        Err(refused) => Err(Stop::Refused { line: refused.line }),
-    }
+    let table = read_certify_input(bytes, coin)?;
+    Ok(Job::Multi(MultiJob::new(table, coin, hands)))
 }
 
 fn hits_job(coin: u8, bytes: &[u8]) -> Result<Job<'_>, Stop>
@@ -185,10 +177,8 @@ fn hits_job(coin: u8, bytes: &[u8]) -> Result<Job<'_>, Stop>
     requires limit { length bytes.now ≤ 67108864 }
     ensures { result ≡ read_as (hits_job coin) (hits_input coin bytes.now) }
 {
-    match read_certify_input(bytes, coin) {
-        Ok(table) => Ok(Job::Hits(HitsJob::new(table, coin))),
-        Err(refused) => Err(Stop::Refused { line: refused.line }),
-    }
+    let table = read_certify_input(bytes, coin)?;
+    Ok(Job::Hits(HitsJob::new(table, coin)))
 }
 
 fn play_job(coin: u8, seed: u64, games: u32, bytes: &[u8]) -> Result<Job<'_>, Stop>
@@ -198,10 +188,8 @@ fn play_job(coin: u8, seed: u64, games: u32, bytes: &[u8]) -> Result<Job<'_>, St
     requires limit { length bytes.now ≤ 67108864 }
     ensures { result ≡ read_as (play_job coin seed games) (play_input coin bytes.now) }
 {
-    match read_certify_input(bytes, coin) {
-        Ok(table) => Ok(Job::Play(PlayJob::new(table, coin, seed, games))),
-        Err(refused) => Err(Stop::Refused { line: refused.line }),
-    }
+    let table = read_certify_input(bytes, coin)?;
+    Ok(Job::Play(PlayJob::new(table, coin, seed, games)))
 }
 
 fn compile_job(coin: u8, millionths: u32, bytes: &[u8]) -> Result<Job<'_>, Stop>
@@ -210,10 +198,8 @@ fn compile_job(coin: u8, millionths: u32, bytes: &[u8]) -> Result<Job<'_>, Stop>
     requires limit { length bytes.now ≤ 67108864 }
     ensures { result ≡ read_as (compile_job coin millionths) (compile_input coin bytes.now) }
 {
-    match read_compile_input(bytes, coin) {
-        Ok((table, pool)) => Ok(Job::Compile(CompileJob::new(table, coin, millionths, pool))),
-        Err(refused) => Err(Stop::Refused { line: refused.line }),
-    }
+    let (table, pool) = read_compile_input(bytes, coin)?;
+    Ok(Job::Compile(CompileJob::new(table, coin, millionths, pool)))
 }
 
 fn audit_job(coin: u8, bytes: &[u8]) -> Result<Job<'_>, Stop>
@@ -221,10 +207,8 @@ fn audit_job(coin: u8, bytes: &[u8]) -> Result<Job<'_>, Stop>
     requires limit { length bytes.now ≤ 67108864 }
     ensures { result ≡ read_as (audit_job coin) (audit_input coin bytes.now) }
 {
-    match read_audit_input(bytes, coin) {
-        Ok((table, list)) => Ok(Job::Audit(AuditJob::new(table, coin, list))),
-        Err(refused) => Err(Stop::Refused { line: refused.line }),
-    }
+    let (table, list) = read_audit_input(bytes, coin)?;
+    Ok(Job::Audit(AuditJob::new(table, coin, list)))
 }
 
 fn cross_job(coin: u8, bytes: &[u8]) -> Result<Job<'_>, Stop>
@@ -232,10 +216,8 @@ fn cross_job(coin: u8, bytes: &[u8]) -> Result<Job<'_>, Stop>
     requires limit { length bytes.now ≤ 67108864 }
     ensures { result ≡ read_as (cross_job coin) (cross_input coin bytes.now) }
 {
-    match read_cross_input(bytes, coin) {
-        Ok((played, priced)) => Ok(Job::Cross(CrossJob::new(played, priced, coin))),
-        Err(refused) => Err(Stop::Refused { line: refused.line }),
-    }
+    let (played, priced) = read_cross_input(bytes, coin)?;
+    Ok(Job::Cross(CrossJob::new(played, priced, coin)))
 }
 
 fn check_job<'a>(verdict: Result<Checked, Finding>) -> Result<Job<'a>, Stop>
@@ -264,10 +246,8 @@ fn replay_job(bytes: &[u8]) -> Result<Job<'_>, Stop>
     requires limit { length bytes.now ≤ 67108864 }
     ensures { result ≡ log_read (replay_input bytes.now) }
 {
-    match read_replay_input(bytes) {
-        Ok((table, log)) => lawful_job(table, log),
-        Err(refused) => Err(Stop::Refused { line: refused.line }),
-    }
+    let (table, log) = read_replay_input(bytes)?;
+    lawful_job(table, log)
 }
 
 /// A log is stopped at the first game that breaks a law.
@@ -286,8 +266,6 @@ fn sessions_job(bytes: &[u8]) -> Result<Job<'_>, Stop>
     requires limit { length bytes.now ≤ 67108864 }
     ensures { result ≡ read_as sessions_job (sessions_input bytes.now) }
 {
-    match read_sessions_input(bytes) {
-        Ok((table, csv)) => Ok(Job::Sessions(SessionsJob::new(table, csv))),
-        Err(refused) => Err(Stop::Refused { line: refused.line }),
-    }
+    let (table, csv) = read_sessions_input(bytes)?;
+    Ok(Job::Sessions(SessionsJob::new(table, csv)))
 }
