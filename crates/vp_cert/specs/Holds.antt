@@ -1,4 +1,4 @@
--- What a counting source of best holds tells.
+-- What a counting source of best holds tells: the bet that it is of, and how often it was asked. It is this program's own.
 use Rattle.std.specs.Prelude.{ℕ}
 use Rattle.vp_pay.specs.declared.table.PayTable.{PayTable}
 

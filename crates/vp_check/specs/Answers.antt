@@ -1,4 +1,4 @@
--- What it means that a text is checked, or that a rule is broken in it.
+-- What it means that a text is checked, or that a rule is broken in it (docs/FORMATS.md, `vpoker check`).
 use Rattle.std.specs.Prelude.{◌≡◌, ℕ, List, IsSomeAnd}
 use Rattle.vp_text.specs.Lines.{feed_of}
 use Rattle.vp_check.specs.Certificates.{Certificate}

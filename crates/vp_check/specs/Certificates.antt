@@ -1,4 +1,4 @@
--- What a certificate says, and which certificates are in the grammar.
+-- What a certificate says, and which certificates are in the grammar: this program's own (docs/FORMATS.md, The certificate).
 use Rattle.std.specs.Prelude.{ℕ, ◌≤◌, ◌<◌, ◌^◌, List, length}
 use Rattle.std.specs.List.{All}
 use Rattle.vp_pay.specs.Bets.{IsBet}

@@ -1,4 +1,4 @@
--- What a true certificate tells of every deal.
+-- What a true certificate tells of every deal, in the words of the game alone: its holds and their mean payments (vp_draws, Draws).
 use Rattle.std.specs.Prelude.{◌≡◌, ℕ, ◌<◌, ◌≤◌, List}
 use Rattle.std.specs.List.{Contains}
 use Rattle.vp_draws.specs.Draws.{IsMean, return_denominator, sum_of_best, total, value}

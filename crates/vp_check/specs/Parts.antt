@@ -1,4 +1,4 @@
--- A certificate that is checked part by part: each check walks some of its class lines.
+-- A certificate that is checked part by part: each check walks some of its class lines (docs/FORMATS.md, `vpoker check`).
 use Rattle.std.specs.Prelude.{◌≡◌, ℕ, ◌≤◌, Bool, true, List, length}
 use Rattle.std.specs.List.{All, list_any}
 use Rattle.vp_check.specs.Certificates.{Certificate, IsCertificate}

@@ -1,4 +1,5 @@
--- The rules of a certificate that is in the grammar, and the first that is broken.
+-- The rules of a certificate that is in the grammar, and the first that is broken. The rules and their order are this program's own
+-- (docs/FORMATS.md, The certificate).
 use Rattle.std.specs.Prelude.{ℕ, ◌+◌, ◌*◌, Bool, not, ◌&&◌, ◌==◌, nat_le, nat_lt, List, [], ◌∷◌, length, map, sum_by, Option, Some, None, option_map, if◌then◌else◌}
 use Rattle.vp_pay.specs.declared.table.PayTable.{PayTable}
 use Rattle.vp_sets.specs.Index.{set_index}

@@ -1,4 +1,4 @@
--- The one spelling of a certificate.
+-- The one spelling of a certificate. Its lines and key words are this program's own (docs/FORMATS.md, The certificate).
 use Rattle.std.specs.Prelude.{ℕ, List, [], ◌∷◌, ◌++◌, map, codes}
 use Rattle.std.specs.Fmt.{decimal}
 use Rattle.vp_card.specs.Texts.{card_text}

@@ -1,4 +1,5 @@
--- True certificates.
+-- True certificates: what each of their numbers tells is the expected payment and the return (vp_draws, Draws), over the classes of deals
+-- (vp_suit, Classes).
 use Rattle.std.specs.Prelude.{◌≡◌, ℕ, ◌*◌, true, List, length, map, sum_by, None}
 use Rattle.std.specs.List.{All}
 use Rattle.std.specs.List.Sorted.{IsStrictlyIncreasing}

@@ -1,4 +1,5 @@
--- What the holds that are printed for one table cost on another table: the first is played, and the second prices.
+-- What the holds that are printed for one table cost on another table: the first is played, and the second prices. A cost is the difference
+-- of two expected payments (vp_draws, Draws); which hold is played is this program's own rule (docs/FORMATS.md, `vpoker cross`).
 use Rattle.std.specs.Prelude.{ℕ, ◌-◌, Bool, if◌then◌else◌, ◌==◌, nat_lt, max, List, [], ◌∷◌, Option, None, option_map, find, sum_by, count_by}
 use Rattle.vp_pay.specs.declared.table.PayTable.{PayTable}
 use Rattle.vp_suit.specs.Classes.{representative, representatives}

@@ -1,4 +1,5 @@
--- The seven fields of a record, and how cards stand in a field: their texts, with one space between.
+-- The seven fields of a record, and how cards stand in a field: their texts, with one space between. The fields are this program's own
+-- (docs/FORMATS.md, Logs of many sessions).
 use Rattle.std.specs.Prelude.{ℕ, ◌==◌, ◌&&◌, nat_lt, length, List, [], ◌∷◌, ◌++◌, Option, Some, None, if◌then◌else◌}
 use Rattle.vp_card.specs.Reading.{card_of}
 use Rattle.vp_text.specs.Pieces.{◌>>=◌}

@@ -1,4 +1,5 @@
--- Which records may stand in a log of many sessions, and which record breaks its rule first.
+-- Which records may stand in a log of many sessions, and which record breaks its rule first. The rules are this program's own
+-- (docs/FORMATS.md, Logs of many sessions).
 use Rattle.std.specs.Prelude.{◌≡◌, ℕ, ◌+◌, ◌&&◌, nat_lt, Bool, true, false, List, [], ◌∷◌, ◌++◌, length, Option, Some, None, is_some, ◌⊎◌, bytes_eq, codes, if◌then◌else◌}
 use Rattle.std.specs.List.{list_any}
 use Rattle.vp_text.specs.ExactReaders.{Keeps}

@@ -1,4 +1,5 @@
--- What the sessions of a text are: the log of each has its opening number as start, and its game records, in their order, as games.
+-- What the sessions of a text are: the log of each has its opening number as start, and its game records, in their order, as games. The
+-- form is this program's own (docs/FORMATS.md, Logs of many sessions).
 use Rattle.std.specs.Prelude.{◌≡◌, ℕ, ◌<◌, List, [], ◌∷◌, length, filter, map, flat_map, get_or, Option, Some, None, option_to_list, bytes_eq}
 use Rattle.vp_text.specs.Lines.{Word}
 use Rattle.vp_loggram.specs.Logs.{LogValue}

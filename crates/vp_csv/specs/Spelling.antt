@@ -1,4 +1,4 @@
--- The one spelling of a record, behind the header row.
+-- The one spelling of a record, behind the header row. It is this program's own (docs/FORMATS.md, Logs of many sessions).
 use Rattle.std.specs.Prelude.{ℕ, List, [], ◌∷◌, map, codes}
 use Rattle.std.specs.Fmt.{decimal}
 use Rattle.vp_card.specs.Texts.{card_text}

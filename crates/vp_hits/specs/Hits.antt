@@ -1,4 +1,5 @@
--- How often the printed holds draw to each pay line.
+-- How often the printed holds draw to each pay line. A chance is a share of equally likely draws, as in any textbook of probability; which
+-- hold is played is this program's own rule (docs/FORMATS.md, `vpoker hits`).
 use Rattle.std.specs.Prelude.{ℕ, ◌-◌, ◌*◌, Bool, true, false, if◌then◌else◌, ◌==◌, List, Option, Some, None, length, map, slice_index, sum_by}
 use Rattle.vp_pay.specs.declared.table.PayTable.{PayTable}
 use Rattle.vp_pay.specs.Table.{IsTable}

@@ -1,4 +1,5 @@
--- A number for each pay line of a table, and one for the hands with no line.
+-- A number for each pay line of a table, and one for the hands with no line. Which numbers are told is this program's own choice
+-- (docs/FORMATS.md, `vpoker hits`).
 use Rattle.std.specs.Prelude.{◌≡◌, ℕ, ◌+◌, ◌*◌, ◌<◌, ◌≤◌, List, [], Option, Some, None, IfSome, nat_lt, if◌then◌else◌, length, slice_index, slice_index_or}
 use Rattle.vp_pay.specs.declared.table.PayTable.{PayTable}
 use Rattle.vp_pay.specs.Bets.{IsBet}

@@ -1,4 +1,5 @@
--- What the moments of several hands are, and what they obey.
+-- What the moments of several hands are, and what they obey. The variance is that within deals and that between deals, as in any textbook
+-- of probability.
 use Rattle.std.specs.Prelude.{◌≡◌, ℕ, ◌+◌, ◌*◌, List}
 use Rattle.vp_pay.specs.declared.table.PayTable.{PayTable}
 use Rattle.vp_pay.specs.Table.{IsTable}

@@ -1,4 +1,5 @@
--- The moments of k hands, summed over all deals.
+-- The moments of k hands, summed over all deals. The mean and the variance of a sum of independent draws, as in any textbook of
+-- probability.
 use Rattle.std.specs.Prelude.{◌≡◌, ℕ, ◌+◌, ◌-◌, ◌*◌, List, sum_by}
 use Rattle.vp_pay.specs.declared.table.PayTable.{PayTable}
 use Rattle.vp_sets.specs.Sets.{choose}

@@ -1,4 +1,4 @@
--- What the program answers to its words and its input.
+-- What the program answers to its words and its input. Statuses and texts are this program's own (docs/FORMATS.md).
 use Rattle.std.specs.Prelude.{◌≡◌, ◌≢◌, ℕ, Bool, true, false, List, [], ◌∷◌, ◌++◌, Option, Some, None, is_some, Result, Ok, Err, codes}
 use Rattle.std.specs.Option.{option_map_or}
 use Rattle.vp_text.specs.Written.{line_of, written}

@@ -1,4 +1,4 @@
--- `certify`: what its input says.
+-- `certify`: what its input says. Input and text are this program's own (docs/FORMATS.md, `vpoker certify`).
 use Rattle.std.specs.Prelude.{ℕ, List, Result}
 use Rattle.vp_pay.specs.declared.table.PayTable.{PayTable}
 use Rattle.vp_answer.specs.Inputs.{AreRead, RefusesTable, SpellsTable, table_input}

@@ -1,4 +1,4 @@
--- `check`: what its input says, and what it prints.
+-- `check`: what its input says, and what it prints. Input and text are this program's own (docs/FORMATS.md, `vpoker check`).
 use Rattle.std.specs.Prelude.{◌≡◌, ◌↔◌, ◌⊎◌, ℕ, List, [], ◌∷◌, Err, codes}
 use Rattle.std.specs.Fmt.{decimal}
 use Rattle.vp_text.specs.Lines.{feed_of}

@@ -1,4 +1,5 @@
--- `compile`: what its input says, what is made of a pool, and what is printed.
+-- `compile`: what its input says, what is made of a pool, and what is printed. Input and text are this program's own (docs/FORMATS.md,
+-- `vpoker compile`).
 use Rattle.std.specs.Prelude.{◌≡◌, ℕ, ◌+◌, ◌*◌, ◌/◌, ◌≤◌, List, [], ◌∷◌, ◌++◌, Result, codes, length}
 use Rattle.vp_text.specs.Lines.{Word}
 use Rattle.vp_text.specs.Sections.{Text}

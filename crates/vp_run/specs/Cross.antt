@@ -1,4 +1,4 @@
--- `cross`: what its input says, and what it prints.
+-- `cross`: what its input says, and what it prints. Input and text are this program's own (docs/FORMATS.md, `vpoker cross`).
 use Rattle.std.specs.Prelude.{◌≡◌, ℕ, ◌-◌, Bool, ◌&&◌, ◌==◌, IsTrue, List, [], ◌∷◌, ◌++◌, map, Option, None, Some, Result, codes, ◌⊎◌}
 use Rattle.std.specs.Fmt.{decimal}
 use Rattle.vp_card.specs.Texts.{card_text}

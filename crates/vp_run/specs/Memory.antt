@@ -1,4 +1,4 @@
--- How much memory an answer needs beside its input.
+-- How much memory an answer needs beside its input. It is this program's own.
 use Rattle.std.specs.Prelude.{ℕ, Bool, true, false, ◌*◌, List, Option, Some, None, ◌+◌, ◌-◌}
 use Rattle.vp_count.specs.Table.{first_word}
 use Rattle.vp_answer.specs.Answers.{words_read}

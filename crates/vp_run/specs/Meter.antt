@@ -1,4 +1,4 @@
--- `meter`: what its input says, and what its text tells.
+-- `meter`: what its input says, and what its text tells. Input and text are this program's own (docs/FORMATS.md, `vpoker meter`).
 use Rattle.std.specs.Prelude.{ℕ, ◌≤◌, Bool, ◌&&◌, List, Option, Result, bytes_eq, is_some, position}
 use Rattle.std.specs.Option.{unwrap_or}
 use Rattle.vp_pay.specs.declared.table.PayTable.{PayTable}
@@ -28,6 +28,7 @@ pub record Ranged : Type 0 where
   pub lo : ℕ
   pub hi : ℕ
 
+-- the table has the bet and the line, and the payments rise from the least to the greatest, which is at most 500000
 pub record IsRanged (r : Ranged) : Type 0 where
   pub metering : IsMetering r.metering
   pub order : r.lo ≤ r.hi

@@ -1,4 +1,4 @@
--- `multi`: what its input says, and what it prints.
+-- `multi`: what its input says, and what it prints. Input and text are this program's own (docs/FORMATS.md, `vpoker multi`).
 use Rattle.std.specs.Prelude.{ℕ, ◌*◌, ◌≤◌, List, [], ◌∷◌, Result, codes}
 use Rattle.vp_text.specs.Sections.{Text}
 use Rattle.vp_pay.specs.Bets.{IsBet}

@@ -1,4 +1,4 @@
--- `play`: what its input says, and what it prints.
+-- `play`: what its input says, and what it prints. Input and text are this program's own (docs/FORMATS.md, `vpoker play`).
 use Rattle.std.specs.Prelude.{ℕ, ◌≤◌, List, [], ◌∷◌, Result, codes}
 use Rattle.std.specs.Fmt.{decimal}
 use Rattle.vp_text.specs.Sections.{Text}

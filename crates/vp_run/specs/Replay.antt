@@ -1,4 +1,5 @@
--- `replay`: what its input says, what it prints, and what that tells.
+-- `replay`: what its input says, what it prints, and what that tells. Input and text are this program's own (docs/FORMATS.md,
+-- `vpoker replay`).
 use Rattle.std.specs.Prelude.{◌≡◌, ℕ, Bool, true, List, Result, None}
 use Rattle.vp_pay.specs.Table.{IsTable}
 use Rattle.vp_pay.specs.declared.table.PayTable.{PayTable}

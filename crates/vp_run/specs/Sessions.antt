@@ -1,4 +1,5 @@
--- `sessions`: what its input says, what is told of each session, and what is answered.
+-- `sessions`: what its input says, what is told of each session, and what is answered. Input and text are this program's own
+-- (docs/FORMATS.md, `vpoker sessions`).
 use Rattle.std.specs.Prelude.{◌≡◌, ◌==◌, ℕ, Bool, List, [], ◌∷◌, ◌++◌, filter, flat_map, length, Option, Some, None, is_some, Result, Ok, codes, if◌then◌else◌}
 use Rattle.std.specs.Fmt.{decimal}
 use Rattle.vp_text.specs.Lines.{Feed, feed_of, rest_of}

@@ -1,4 +1,4 @@
--- How a call ends: its code, what stands in the room then, and how many of its bytes are the text.
+-- How a call ends: its code, what stands in the room then, and how many of its bytes are the text. The codes are this program's own.
 use Rattle.std.specs.Prelude.{◌≡◌, ◌⊎◌, ◌<◌, ◌≤◌, ℕ, true, List, ◌++◌, length, take, drop}
 use Rattle.vp_text.specs.Lines.{Word}
 use Rattle.vp_answer.specs.Answers.{Answer}

@@ -1,4 +1,5 @@
--- How words are handed over: one behind another, each ended by a zero byte.
+-- How words are handed over: one behind another, each ended by a zero byte. Words for C are as in C, ended by a zero byte; that they stand
+-- one behind another is this program's own rule.
 use Rattle.std.specs.Prelude.{◌≡◌, ℕ, List, [], ◌∷◌, ◌++◌}
 use Rattle.std.specs.List.{Contains}
 use Rattle.std.specs.Str.{IsUtf8}
