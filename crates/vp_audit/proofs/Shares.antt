@@ -9,14 +9,15 @@ use Rattle.std.proofs.lemmas.List.Sums.{sum_by-cons}
 use Rattle.vp_sets.specs.Sets.{choose, deck}
 use Rattle.vp_sets.proofs.Decks.{length-deck}
 use Rattle.vp_sets.proofs.Sublists.{length-combos, sum_by-map, sum_by-plus}
-use Rattle.vp_suit.specs.Classes.{IsDeal, least_turn, representative, representatives}
+use Rattle.vp_sets.proofs.Sums.{sum_const}
+use Rattle.vp_suit.specs.Classes.{representative, representatives}
 use Rattle.vp_suit.proofs.ClassLaws.{representatives_only}
-use Rattle.vp_suit.proofs.Deals.{deal_rises, sum_by_classes}
-use Rattle.vp_suit.proofs.Representatives.{represented}
+use Rattle.vp_suit.proofs.Deals.{sum_by_classes}
 use Rattle.vp_pay.specs.declared.table.PayTable.{PayTable}
 use Rattle.vp_draws.specs.Draws.{best, sum_of_best}
 use Rattle.vp_draws.proofs.Chosen.{value_le_best}
-use Rattle.vp_draws.proofs.TurnedValues.{best_by_classes, best_turned}
+use Rattle.vp_draws.proofs.Printed.{best_of_class}
+use Rattle.vp_draws.proofs.TurnedValues.{best_by_classes}
 use Rattle.vp_rule.specs.Lists.{RuleList}
 use Rattle.vp_suit.specs.Laws.{deals}
 use Rattle.vp_audit.specs.Audits.{audited, is_by, lost, only, tally}
@@ -101,16 +102,12 @@ module _ (table : PayTable) (list : RuleList) (f : List ℕ → ℕ) where
           ap (λ (g : ℕ → ℕ). sum_by g (range_with_len 0 (length list.rules))) (fun_ext (λ i. sum_by-cons (λ cards. only (is_by table list (ByRule i) cards) (f cards)) x xs))
           ∙ sum_by-plus (λ i. only (same (ByRule i) (decided table list x)) (f x)) (λ i. part (ByRule i) xs) (range_with_len 0 (length list.rules))
 
-sum_of_ones : (xs : List (List ℕ)) → sum_by (λ (x : List ℕ). 1) xs ≡ length xs
-sum_of_ones [] = refl
-sum_of_ones (x ∷ xs) = omega (arith, sum_by-cons (λ (y : List ℕ). 1) x xs, sum_of_ones xs)
-
 pub deals_shared : DealsAreSharedOut
 unfolding audited tally
 deals_shared table coin list =
     let rules = sum_by-map (λ (t : Tally). t.deals) (λ i. tally table coin list (ByRule i)) (range_with_len 0 (length list.rules)) in
     let whole = shared table list (λ cards. 1) (deals table.deck) in
-    let many = sum_of_ones (deals table.deck) in
+    let many : sum_by (λ (x : List ℕ). 1) (deals table.deck) ≡ length (deals table.deck) * 1 = sum_const 1 (deals table.deck) in
     let all = length-combos 5 (deck table.deck) ∙ ap (λ n. choose n 5) (length-deck table.deck) in
     omega (arith, rules, whole, many, all)
 
@@ -134,11 +131,6 @@ worth_shared table coin list bet valid =
     omega (arith, least_total, best_total, parts table coin list big valid (representatives table.deck) (representatives_only table.deck), loss_is table coin list big valid)
 
 -- ---- one deal
-
--- the representative of a deal has the same best value
-best_of_class : (table : PayTable) (coin : ℕ) (cards : List ℕ) → 52 ≤ table.deck → IsDeal table.deck cards → best table coin (representative cards) ≡ best table coin cards
-unfolding representative
-best_of_class table coin cards big deal = best_turned (least_turn cards) coin table cards big (represented cards (deal_rises table.deck cards deal)).inside deal
 
 pub least_at_most : LeastIsAtMostTheBest
 least_at_most table coin list cards bet valid deal = at (excepted list.exceptions cards) refl (deciding table list.rules cards) refl

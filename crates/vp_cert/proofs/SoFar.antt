@@ -1,20 +1,16 @@
 -- The class lines so far: what was put, what was added up, and how often a best hold was asked for; and what is left of them.
 use Rattle.std.proofs.Common.{◌≡◌, ℕ, true, ◌+◌, ◌*◌, ◌^◌, ◌<◌, ◌≤◌, List, [], ◌∷◌, ◌++◌, length, map, refl, ap, sym, ◌∙◌, arith, subst}
 use Rattle.std.specs.Prelude.{Result, Ok, Err, IsErr}
-use Rattle.std.specs.List.{sum_by, All}
-use Rattle.std.proofs.lemmas.List.Sums.{sum_by-cons}
-use Rattle.std.proofs.lemmas.List.Elements.{All-head, All-rest, All-same}
 use Rattle.std.proofs.lemmas.Bool.Decides.{nat_tests}
 use Rattle.vp_text.specs.Written.{line_of, written}
 use Rattle.vp_pay.specs.declared.table.PayTable.{PayTable}
 use Rattle.vp_pay.specs.Table.{IsTable}
-use Rattle.vp_suit.specs.Classes.{IsDeal, is_representative, representatives, weight}
-use Rattle.vp_suit.proofs.ClassLaws.{representatives_only}
-use Rattle.vp_suit.proofs.TurnedDraws.{dealt_is}
+use Rattle.vp_suit.specs.Classes.{representatives, weight}
+use Rattle.vp_suit.proofs.Weighed.{Added, added_all, added_fits, added_more, added_none, next_hand as next_class_hand}
 use Rattle.vp_card.specs.Cards.{in_deck}
 use Rattle.vp_draws.specs.Draws.{best, sum_of_best}
-use Rattle.vp_draws.proofs.TurnedValues.{best_by_classes}
-use Rattle.vp_draws.proofs.Bounds.{sum_of_best_fits}
+use Rattle.vp_draws.proofs.TurnedValues.{best_kept, best_sum_is}
+use Rattle.vp_draws.proofs.Bounds.{best_sum_fits}
 use Rattle.vp_check.specs.declared.class_line.ClassLine.{ClassLine}
 use Rattle.vp_check.specs.Spelling.{class_words}
 use Rattle.vp_check.specs.Truth.{due_line}
@@ -28,26 +24,16 @@ use Rattle.vp_io.proofs.PutSoFar.{PutSoFar, put_all, put_halted, put_more, put_s
 abbrev pub lines : PayTable → ℕ → List (List ℕ) → List ℕ
 lines table coin classes = written (map class_words (map (due_line table coin) classes))
 
--- weight times best value, over some classes
-abbrev pub worth : PayTable → ℕ → List (List ℕ) → ℕ
-worth table coin classes = sum_by (λ cards. weight cards * best table coin cards) classes
-
--- the representative of a class of deals
-abbrev IsClass : ℕ → List ℕ → Type 0
-IsClass n cards = IsDeal n cards × (is_representative cards ≡ true)
-
 -- all classes but those that are left
 pub record SoFar (table : PayTable) (coin : ℕ) (left : List (List ℕ)) (total : ℕ) (old new : Told) (first asked : ℕ) : Type 0 where
-  pub each : All (IsClass table.deck) left
-  pub added : total + worth table coin left ≡ worth table coin (representatives table.deck)
+  pub sum : Added table.deck (best table coin) left total
   pub put : PutSoFar old new (lines table coin (representatives table.deck)) (lines table coin left)
   pub asks : asked + length left ≤ first + length (representatives table.deck)
 
 -- nothing was put yet
-pub start : (table : PayTable) (coin : ℕ) (left : List (List ℕ)) (old : Told) (first : ℕ) → left ≡ representatives table.deck → SoFar table coin left 0 old old first first
-start table coin left old first is = record {
-  each = All-same (IsClass table.deck) left (representatives table.deck) is (representatives_only table.deck);
-  added = let all : worth table coin left ≡ worth table coin (representatives table.deck) = ap (worth table coin) is in omega (arith, all);
+pub start : (table : PayTable) (coin : ℕ) (left : List (List ℕ)) (old : Told) (first : ℕ) → IsTable table → left ≡ representatives table.deck → SoFar table coin left 0 old old first first
+start table coin left old first rules is = record {
+  sum = added_none table.deck (best table coin) left rules.known_deck (best_kept coin table rules.known_deck.0) is;
   put = subst (λ (l : List (List ℕ)). PutSoFar old old (lines table coin (representatives table.deck)) (lines table coin l)) (sym is) (put_start old (lines table coin (representatives table.deck)));
   asks = let many : length left ≡ length (representatives table.deck) = ap length is in omega (arith, many);
 }
@@ -55,18 +41,11 @@ start table coin left old first is = record {
 module _ (table : PayTable) (coin : ℕ) (cards : List ℕ) (left rest : List (List ℕ)) (is : left ≡ cards ∷ rest) where
   -- the next class is one of a hand of the table's deck
   pub next_hand : (told : PayTable) (total : ℕ) (old new : Told) (first asked : ℕ) → told ≡ table → SoFar table coin left total old new first asked → in_deck told.deck cards ≡ true
-  next_hand told total old new first asked same so =
-      let class : IsClass table.deck cards = All-head (IsClass table.deck) cards rest (subst (λ (l : List (List ℕ)). All (IsClass table.deck) l) is so.each) in
-      ap (λ (t : PayTable). in_deck t.deck cards) same ∙ (dealt_is table.deck cards class.0).of_deck
-
-  worth_left : worth table coin left ≡ weight cards * best table coin cards + worth table coin rest
-  worth_left = ap (worth table coin) is ∙ sum_by-cons (λ cards. weight cards * best table coin cards) cards rest
+  next_hand told total old new first asked same so = ap (λ (t : PayTable). in_deck t.deck cards) same ∙ next_class_hand table.deck (best table coin) cards left rest is total so.sum
 
   -- what is added up and the next class together are a part of the whole sum, which fits
   pub next_fits : (total : ℕ) (old new : Told) (first asked : ℕ) → IsTable table → SoFar table coin left total old new first asked → total + weight cards * best table coin cards < 2 ^ 64
-  next_fits total old new first asked rules so =
-      let whole : worth table coin (representatives table.deck) ≡ sum_of_best table coin = best_by_classes coin table rules.known_deck.0 in
-      omega (arith, whole, so.added, worth_left, sum_of_best_fits table coin rules)
+  next_fits total old new first asked rules so = omega (arith, added_fits table.deck (best table coin) cards left rest is total so.sum, best_sum_fits table coin rules)
 
   -- the line of the class, and the lines of the rest
   lines_left : (line : ClassLine) → line ≡ due_line table coin cards → lines table coin left ≡ line_of (class_words line) ++ lines table coin rest
@@ -81,8 +60,7 @@ module _ (table : PayTable) (coin : ℕ) (cards : List ℕ) (left rest : List (L
       let worth_next : value ≡ weight cards * best table coin cards = rw due at valued in
       let many : length left ≡ length (cards ∷ rest) = ap length is in
       record {
-        each = All-rest (IsClass table.deck) cards rest left is so.each;
-        added = omega (arith, added, worth_next, worth_left, so.added);
+        sum = added_more table.deck (best table coin) cards left rest is total next_total (omega (arith, added, worth_next)) so.sum;
         put = put_more (lines_left line due) ok put so.put;
         asks = omega (arith, asked_le asked next_asked counted, many, so.asks);
       }
@@ -120,6 +98,4 @@ end_put table coin left total done old new first asked none so = put_all (ap (li
 -- and by weight they are all deals
 pub end_sum : (table : PayTable) (coin : ℕ) (left : List (List ℕ)) (total : ℕ) (old new : Told) (first asked : ℕ)
     → IsTable table → left ≡ [] → SoFar table coin left total old new first asked → total ≡ sum_of_best table coin
-end_sum table coin left total old new first asked rules none so =
-    let nothing : worth table coin left ≡ 0 = ap (worth table coin) none in
-    omega (arith, nothing, so.added, best_by_classes coin table rules.known_deck.0)
+end_sum table coin left total old new first asked rules none so = best_sum_is table coin total (added_all table.deck (best table coin) left total none so.sum)

@@ -141,6 +141,3 @@ told_is played priced coin hand cards mask best_mask c h m b e = rw (h, m, b, e)
 pub cost_is : (played priced : PayTable) (coin : ℕ) (cards : List ℕ) (b v : ℕ) → b ≡ best priced coin cards → v ≡ crossed_value played priced coin cards → b - v ≡ cost played priced coin cards
 unfolding cost
 cost_is played priced coin cards b v e f = rw (e, f) refl
-
-pub weighed_is : (w v x y : ℕ) → w ≡ x → v ≡ y → w * v ≡ x * y
-weighed_is w v x y e f = rw (e, f) refl

@@ -62,5 +62,5 @@ unfolding often
 often_is table coin place sum is = is
 
 -- what a class adds
-pub weighed_chance : {w x v f : ℕ} → w ≡ x → v ≡ f → w * v ≡ x * f
-weighed_chance e g = rw (e, g) refl
+pub weighed_is : {w x v f : ℕ} → w ≡ x → v ≡ f → w * v ≡ x * f
+weighed_is e g = rw (e, g) refl

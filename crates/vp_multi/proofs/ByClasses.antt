@@ -61,12 +61,6 @@ powers_all table coin left values squares squared none a = record {
 }
 
 -- what a class adds
-pub value_weighed : (table : PayTable) (coin : ℕ) (cards : List ℕ) (w v : ℕ) → w ≡ weight cards → v ≡ best table coin cards → w * v ≡ weight cards * best table coin cards
-value_weighed table coin cards w v e f = rw (e, f) refl
-
-pub square_weighed : (table : PayTable) (coin : ℕ) (cards : List ℕ) (w v : ℕ) → w ≡ weight cards → v ≡ printed_square table coin cards → w * v ≡ weight cards * printed_square table coin cards
-square_weighed table coin cards w v e f = rw (e, f) refl
-
 pub squared_weighed : (table : PayTable) (coin : ℕ) (cards : List ℕ) (w v : ℕ) → w ≡ weight cards → v ≡ best table coin cards → w * (v * v) ≡ weight cards * squared_value table coin cards
 unfolding squared_value
 squared_weighed table coin cards w v e f = rw (e, f) refl

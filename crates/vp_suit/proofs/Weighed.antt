@@ -114,3 +114,7 @@ module _ (n : ℕ) (f : List ℕ → ℕ) (cards : List ℕ) (left rest : List (
 
 pub added_all : (n : ℕ) (f : List ℕ → ℕ) (left : List (List ℕ)) (sum : ℕ) → left ≡ [] → Added n f left sum → sum ≡ sum_by f (combos 5 (deck n))
 added_all n f left sum none a = let e : weighed f left ≡ 0 = ap (weighed f) none in omega (arith, a.added)
+
+-- what a class adds
+pub weighed_is : {w v x y : ℕ} → w ≡ x → v ≡ y → w * v ≡ x * y
+weighed_is e f = rw (e, f) refl

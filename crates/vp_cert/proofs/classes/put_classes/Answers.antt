@@ -7,7 +7,7 @@ use Rattle.vp_cert.proofs.classes.put_classes.Goals as goal
 
 pub loop-class-init : goal.loop-class-init
 loop-class-init g c = record {
-  so_far = start _ _ _ _ _ (c.new-classes.ensures ∙ ap (λ (t : PayTable). representatives t.deck) c.table.ensures.table);
+  so_far = start _ _ _ _ _ c.table.ensures.rules (c.new-classes.ensures ∙ ap (λ (t : PayTable). representatives t.deck) c.table.ensures.table);
   same_table = refl;
   same_coin = refl;
 }

@@ -4,7 +4,8 @@ use Rattle.vp_pay.specs.declared.table.PayTable.{PayTable}
 use Rattle.vp_suit.specs.Classes.{representatives, weight}
 use Rattle.vp_draws.specs.Draws.{best, least_best, value}
 use Rattle.vp_cross.specs.Crossings.{crossed_value}
-use Rattle.vp_cross.proofs.ByClasses.{best_fits, classes_fit, cost_is, deals_fit, next_hand, next_value, tallied_all, tallied_more, tallied_none, told_is, value_fits, weighed_is}
+use Rattle.vp_suit.proofs.Weighed.{weighed_is}
+use Rattle.vp_cross.proofs.ByClasses.{best_fits, classes_fit, cost_is, deals_fit, next_hand, next_value, tallied_all, tallied_more, tallied_none, told_is, value_fits}
 use Rattle.vp_cross.proofs.Totals.{never_exceeds}
 use Rattle.vp_cross.proofs.crossed.cross.Goals as goal
 
@@ -28,7 +29,7 @@ pub overflow_add-crossed : goal.overflow_add-crossed
 overflow_add-crossed c =
     omega (
       arith,
-      weighed_is _ _ _ _ (c.from-weight.ensures ∙ c.in-Some.ensures.weight) (c.from.ensures ∙ c.best-best.ensures.best),
+      weighed_is (c.from-weight.ensures ∙ c.in-Some.ensures.weight) (c.from.ensures ∙ c.best-best.ensures.best),
       best_fits _ _ _ c.in-Some.class.hand _ _ c.in-Some.ensures.given _ _ _ _ _ c.table.ensures.rules c.loop-class.invariant,
     )
 
@@ -42,7 +43,7 @@ overflow_add-crossed-in-Some c =
     ∙ next_value _ _ _ c.in-Some.class.hand _ _ c.in-Some.ensures.given _ _ _ _ _ c.table.ensures.rules c.loop-class.invariant in
     omega (
       arith,
-      weighed_is _ _ _ _ (c.from-weight.ensures ∙ c.in-Some.ensures.weight) (c.from-in-Some.ensures ∙ value_is),
+      weighed_is (c.from-weight.ensures ∙ c.in-Some.ensures.weight) (c.from-in-Some.ensures ∙ value_is),
       value_fits _ _ _ c.in-Some.class.hand _ _ c.in-Some.ensures.given _ _ _ _ _ c.table.ensures.rules c.loop-class.invariant,
     )
 
@@ -61,9 +62,9 @@ loop-class-preserved c =
     ∙ ap (λ m. value c.args.priced.now.table c.args.priced.now.coin c.in-Some.class.hand m) mask_is
     ∙ next_value _ _ _ c.in-Some.class.hand _ _ c.in-Some.ensures.given _ _ _ _ _ c.table.ensures.rules c.loop-class.invariant in
     let best_weighs : c.from-weight.result * c.from.result ≡ weight c.in-Some.class.hand * best c.args.priced.now.table c.args.priced.now.coin c.in-Some.class.hand =
-    weighed_is _ _ _ _ (c.from-weight.ensures ∙ c.in-Some.ensures.weight) (c.from.ensures ∙ c.best-best.ensures.best) in
+    weighed_is (c.from-weight.ensures ∙ c.in-Some.ensures.weight) (c.from.ensures ∙ c.best-best.ensures.best) in
     let value_weighs : c.from-weight.result * c.from-in-Some.result ≡ weight c.in-Some.class.hand * crossed_value c.args.played.now.table c.args.priced.now.table c.args.priced.now.coin c.in-Some.class.hand =
-    weighed_is _ _ _ _ (c.from-weight.ensures ∙ c.in-Some.ensures.weight) (c.from-in-Some.ensures ∙ value_is) in
+    weighed_is (c.from-weight.ensures ∙ c.in-Some.ensures.weight) (c.from-in-Some.ensures ∙ value_is) in
     tallied_more _ _ _ c.in-Some.class.hand _ _ c.in-Some.ensures.given _ _ _ _ _ c.table.ensures.rules c.loop-class.invariant _ _ _ _ c.in-Some.class.weight _ _
     (told_is _ _ _ _ _ _ _ _ refl mask_is c.best-best.ensures.least_best (cost_is _ _ _ c.in-Some.class.hand _ _ c.best-best.ensures.best value_is))
     c.in-Some.ensures.weight

@@ -3,8 +3,8 @@ use Rattle.vp_card.specs.Cards.{in_deck}
 use Rattle.vp_pay.specs.declared.table.PayTable.{PayTable}
 use Rattle.vp_suit.specs.Classes.{representatives, weight}
 use Rattle.vp_hits.specs.Hits.{chance, printed_chance}
-use Rattle.vp_hits.proofs.Printed.{often_fits, often_is, own_chance, printed_kept, weighed_chance}
-use Rattle.vp_suit.proofs.Weighed.{added_all, added_fits, added_more, added_none, next_hand, next_own}
+use Rattle.vp_hits.proofs.Printed.{often_fits, often_is, own_chance, printed_kept}
+use Rattle.vp_suit.proofs.Weighed.{added_all, added_fits, added_more, added_none, next_hand, next_own, weighed_is}
 use Rattle.vp_hits.proofs.totals.total_hits.Goals as goal
 
 pub loop-class-init : goal.loop-class-init
@@ -26,7 +26,7 @@ overflow_add-total c =
     own_chance t c.args.game.now.coin c.args.hits.now.line c.in-Some.class.hand c.best-best.result.mask c.weight-weight.result (next_own _ _ c.in-Some.class.hand _ _ c.in-Some.ensures.given _ c.table.ensures.rules.known_deck c.loop-class.invariant)
     c.best-best.ensures.least_best (c.weight-weight.ensures ∙ ap (λ (x : PayTable). chance x c.args.hits.now.line c.in-Some.class.hand c.best-best.result.mask) c.requires.same) in
     let more : c.from.result * c.from-in-Some.result ≡ weight c.in-Some.class.hand * printed_chance t c.args.game.now.coin c.args.hits.now.line c.in-Some.class.hand =
-    weighed_chance (c.from.ensures ∙ c.in-Some.ensures.weight) (c.from-in-Some.ensures ∙ here) in
+    weighed_is (c.from.ensures ∙ c.in-Some.ensures.weight) (c.from-in-Some.ensures ∙ here) in
     omega (arith, more, added_fits _ _ c.in-Some.class.hand _ _ c.in-Some.ensures.given _ c.loop-class.invariant, often_fits t c.args.game.now.coin c.args.hits.now.line c.table.ensures.rules)
 
 pub loop-class-preserved : goal.loop-class-preserved
@@ -36,7 +36,7 @@ loop-class-preserved c =
     own_chance t c.args.game.now.coin c.args.hits.now.line c.in-Some.class.hand c.best-best.result.mask c.weight-weight.result (next_own _ _ c.in-Some.class.hand _ _ c.in-Some.ensures.given _ c.table.ensures.rules.known_deck c.loop-class.invariant)
     c.best-best.ensures.least_best (c.weight-weight.ensures ∙ ap (λ (x : PayTable). chance x c.args.hits.now.line c.in-Some.class.hand c.best-best.result.mask) c.requires.same) in
     let more : c.from.result * c.from-in-Some.result ≡ weight c.in-Some.class.hand * printed_chance t c.args.game.now.coin c.args.hits.now.line c.in-Some.class.hand =
-    weighed_chance (c.from.ensures ∙ c.in-Some.ensures.weight) (c.from-in-Some.ensures ∙ here) in
+    weighed_is (c.from.ensures ∙ c.in-Some.ensures.weight) (c.from-in-Some.ensures ∙ here) in
     added_more _ _ c.in-Some.class.hand _ _ c.in-Some.ensures.given _ _ (ap (λ x. c.loop-class.total + x) more) c.loop-class.invariant
 
 pub returns : goal.returns

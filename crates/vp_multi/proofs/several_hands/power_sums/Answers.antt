@@ -5,7 +5,8 @@ use Rattle.vp_wild.specs.Kept.{Bet}
 use Rattle.vp_suit.specs.Classes.{representatives, weight}
 use Rattle.vp_draws.specs.Draws.{best, least_best, value2}
 use Rattle.vp_multi.specs.Sums.{printed_square, squared_value}
-use Rattle.vp_multi.proofs.ByClasses.{powers_none, powers_hand, powers_square, powers_more, values_fit, squares_fit, squared_fit, powers_all, value_weighed, square_weighed, squared_weighed}
+use Rattle.vp_suit.proofs.Weighed.{weighed_is}
+use Rattle.vp_multi.proofs.ByClasses.{powers_none, powers_hand, powers_square, powers_more, values_fit, squares_fit, squared_fit, powers_all, squared_weighed}
 use Rattle.vp_multi.proofs.several_hands.power_sums.Goals as goal
 
 pub loop-class-init : goal.loop-class-init
@@ -20,12 +21,12 @@ value-square-requires-clause-cards c =
 
 pub overflow_add-sums : goal.overflow_add-sums
 overflow_add-sums c =
-    omega (arith, value_weighed _ _ _ _ _ (c.from-weight.ensures ∙ c.in-Some.ensures.weight) (c.from-value.ensures ∙ c.best-best.ensures.best), values_fit _ _ c.in-Some.class.hand _ _ c.in-Some.ensures.given _ _ _ c.table.ensures.rules c.loop-class.invariant)
+    omega (arith, weighed_is (c.from-weight.ensures ∙ c.in-Some.ensures.weight) (c.from-value.ensures ∙ c.best-best.ensures.best), values_fit _ _ c.in-Some.class.hand _ _ c.in-Some.ensures.given _ _ _ c.table.ensures.rules c.loop-class.invariant)
 
 pub overflow_add-sums-in-Some : goal.overflow_add-sums-in-Some
 overflow_add-sums-in-Some c =
     let square_is : c.from-weight.result * c.from.result ≡ weight c.in-Some.class.hand * printed_square c.args.game.now.table c.args.game.now.coin c.in-Some.class.hand =
-    (square_weighed _ _ _ _ _ (c.from-weight.ensures ∙ c.in-Some.ensures.weight)
+    (weighed_is (c.from-weight.ensures ∙ c.in-Some.ensures.weight)
     (c.from.ensures ∙ c.value-square.ensures ∙ ap (λ (b : Bet). value2 b.table b.coin c.in-Some.class.hand c.best-best.result.mask) c.requires.same
     ∙ ap (value2 c.args.game.now.table c.args.game.now.coin c.in-Some.class.hand) c.best-best.ensures.least_best
     ∙ powers_square _ _ c.in-Some.class.hand _ _ c.in-Some.ensures.given _ _ _ c.table.ensures.rules c.loop-class.invariant)) in
@@ -46,9 +47,9 @@ overflow_add-sums-in-Some-2 c =
 pub loop-class-preserved : goal.loop-class-preserved
 loop-class-preserved c =
     let value_is : c.from-weight.result * c.from-value.result ≡ weight c.in-Some.class.hand * best c.args.game.now.table c.args.game.now.coin c.in-Some.class.hand =
-    (value_weighed _ _ _ _ _ (c.from-weight.ensures ∙ c.in-Some.ensures.weight) (c.from-value.ensures ∙ c.best-best.ensures.best)) in
+    (weighed_is (c.from-weight.ensures ∙ c.in-Some.ensures.weight) (c.from-value.ensures ∙ c.best-best.ensures.best)) in
     let square_is : c.from-weight.result * c.from.result ≡ weight c.in-Some.class.hand * printed_square c.args.game.now.table c.args.game.now.coin c.in-Some.class.hand =
-    (square_weighed _ _ _ _ _ (c.from-weight.ensures ∙ c.in-Some.ensures.weight)
+    (weighed_is (c.from-weight.ensures ∙ c.in-Some.ensures.weight)
     (c.from.ensures ∙ c.value-square.ensures ∙ ap (λ (b : Bet). value2 b.table b.coin c.in-Some.class.hand c.best-best.result.mask) c.requires.same
     ∙ ap (value2 c.args.game.now.table c.args.game.now.coin c.in-Some.class.hand) c.best-best.ensures.least_best
     ∙ powers_square _ _ c.in-Some.class.hand _ _ c.in-Some.ensures.given _ _ _ c.table.ensures.rules c.loop-class.invariant)) in

@@ -6,8 +6,8 @@ use Rattle.vp_draws.specs.Draws.{least_best}
 use Rattle.vp_hits.specs.Hits.{chance, often, printed_chance}
 use Rattle.vp_hits.specs.Numbers.{AskedTwo, IsPrinted, Printed}
 use Rattle.vp_hits.proofs.Masks.{mask_small, of_printed, printed_mask, read_more, read_start}
-use Rattle.vp_hits.proofs.Printed.{often_fits, often_is, own_chance, printed_kept, weighed_chance}
-use Rattle.vp_suit.proofs.Weighed.{added_all, added_fits, added_more, added_none, next_hand, next_own}
+use Rattle.vp_hits.proofs.Printed.{often_fits, often_is, own_chance, printed_kept}
+use Rattle.vp_suit.proofs.Weighed.{added_all, added_fits, added_more, added_none, next_hand, next_own, weighed_is}
 use Rattle.vp_hits.proofs.printed_holds.PrintedHolds.often.Goals as goal
 
 pub loop-class-init : goal.loop-class-init
@@ -42,7 +42,7 @@ overflow_add-one c =
     let own = next_own _ _ hand _ _ c.in-Some.ensures.given _ printed.bet.rules.known_deck c.loop-class.invariant.one in
     let here : c.weights-weights.result.0 ≡ printed_chance p.table p.coin c.of-hits.result.first hand =
     own_chance p.table p.coin c.of-hits.result.first hand _ _ own mask (c.weights-weights.ensures.first ∙ ap (λ (t : PayTable). chance t c.of-hits.result.first hand (get_or c.self.inside.masks.now c.loop-class.place 0)) same) in
-    let more : c.from.result * c.from-in-Some.result ≡ weight hand * printed_chance p.table p.coin c.of-hits.result.first hand = weighed_chance (c.from.ensures ∙ c.in-Some.ensures.weight) (c.from-in-Some.ensures ∙ here) in
+    let more : c.from.result * c.from-in-Some.result ≡ weight hand * printed_chance p.table p.coin c.of-hits.result.first hand = weighed_is (c.from.ensures ∙ c.in-Some.ensures.weight) (c.from-in-Some.ensures ∙ here) in
     omega (arith, more, added_fits _ _ hand _ _ c.in-Some.ensures.given _ c.loop-class.invariant.one, often_fits p.table p.coin c.of-hits.result.first printed.bet.rules)
 
 pub overflow_add-other : goal.overflow_add-other
@@ -55,7 +55,7 @@ overflow_add-other c =
     let own = next_own _ _ hand _ _ c.in-Some.ensures.given _ printed.bet.rules.known_deck c.loop-class.invariant.other in
     let here : c.weights-weights.result.1 ≡ printed_chance p.table p.coin c.of-hits.result.second hand =
     own_chance p.table p.coin c.of-hits.result.second hand _ _ own mask (c.weights-weights.ensures.second ∙ ap (λ (t : PayTable). chance t c.of-hits.result.second hand (get_or c.self.inside.masks.now c.loop-class.place 0)) same) in
-    let more : c.from-in-Some-2.result * c.from-in-Some-3.result ≡ weight hand * printed_chance p.table p.coin c.of-hits.result.second hand = weighed_chance (c.from-in-Some-2.ensures ∙ c.in-Some.ensures.weight) (c.from-in-Some-3.ensures ∙ here) in
+    let more : c.from-in-Some-2.result * c.from-in-Some-3.result ≡ weight hand * printed_chance p.table p.coin c.of-hits.result.second hand = weighed_is (c.from-in-Some-2.ensures ∙ c.in-Some.ensures.weight) (c.from-in-Some-3.ensures ∙ here) in
     omega (arith, more, added_fits _ _ hand _ _ c.in-Some.ensures.given _ c.loop-class.invariant.other, often_fits p.table p.coin c.of-hits.result.second printed.bet.rules)
 
 pub loop-class-preserved : goal.loop-class-preserved
@@ -70,8 +70,8 @@ loop-class-preserved c =
     own_chance p.table p.coin c.of-hits.result.first hand _ _ own mask (c.weights-weights.ensures.first ∙ ap (λ (t : PayTable). chance t c.of-hits.result.first hand (get_or c.self.inside.masks.now c.loop-class.place 0)) same) in
     let other : c.weights-weights.result.1 ≡ printed_chance p.table p.coin c.of-hits.result.second hand =
     own_chance p.table p.coin c.of-hits.result.second hand _ _ own mask (c.weights-weights.ensures.second ∙ ap (λ (t : PayTable). chance t c.of-hits.result.second hand (get_or c.self.inside.masks.now c.loop-class.place 0)) same) in
-    let more : c.from.result * c.from-in-Some.result ≡ weight hand * printed_chance p.table p.coin c.of-hits.result.first hand = weighed_chance (c.from.ensures ∙ c.in-Some.ensures.weight) (c.from-in-Some.ensures ∙ one) in
-    let most : c.from-in-Some-2.result * c.from-in-Some-3.result ≡ weight hand * printed_chance p.table p.coin c.of-hits.result.second hand = weighed_chance (c.from-in-Some-2.ensures ∙ c.in-Some.ensures.weight) (c.from-in-Some-3.ensures ∙ other) in
+    let more : c.from.result * c.from-in-Some.result ≡ weight hand * printed_chance p.table p.coin c.of-hits.result.first hand = weighed_is (c.from.ensures ∙ c.in-Some.ensures.weight) (c.from-in-Some.ensures ∙ one) in
+    let most : c.from-in-Some-2.result * c.from-in-Some-3.result ≡ weight hand * printed_chance p.table p.coin c.of-hits.result.second hand = weighed_is (c.from-in-Some-2.ensures ∙ c.in-Some.ensures.weight) (c.from-in-Some-3.ensures ∙ other) in
     record {
       masks = read_more _ _ _ c.loop-class.place hand _ _ c.in-Some.ensures.given c.loop-class.invariant.masks;
       one = added_more _ _ hand _ _ c.in-Some.ensures.given _ _ (ap (λ x. c.loop-class.one + x) more) c.loop-class.invariant.one;
