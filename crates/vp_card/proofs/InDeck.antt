@@ -1,6 +1,8 @@
 -- Cards of a deck, in a list that is made of them.
-use Rattle.std.proofs.Common.{◌≡◌, ℕ, ◌<◌, Bool, true, false, nat_lt, if◌then◌else◌, List, [], ◌∷◌, ◌++◌, refl, arith}
+use Rattle.std.proofs.Common.{◌≡◌, ℕ, ◌<◌, ◌≤◌, Bool, true, false, nat_lt, if◌then◌else◌, List, [], ◌∷◌, ◌++◌, refl, arith}
+use Rattle.std.specs.List.{AllByRecursion}
 use Rattle.std.specs.List.Sorted.{IsPermutation}
+use Rattle.std.proofs.lemmas.Bool.{lt-ltb}
 use Rattle.std.proofs.lemmas.Bool.Decides.{nat_tests}
 use Rattle.std.proofs.lemmas.List.Sums.{AllPass-from_list_all, list_all-from_AllPass}
 use Rattle.std.proofs.lemmas.List.Sorted.{All-permutation}
@@ -45,3 +47,18 @@ pub in_deck-IsPermutation : (n : ℕ) (cards sorted : List ℕ) → IsPermutatio
 in_deck-IsPermutation n cards sorted same below =
     let test : ℕ → Bool = λ card. nat_lt card n
     in list_all-from_AllPass test sorted (All-permutation (λ card. test card ≡ true) cards sorted same (AllPass-from_list_all test cards below))
+
+-- so each is below the number of the cards
+pub all_below : (n : ℕ) (cards : List ℕ) → in_deck n cards ≡ true → AllByRecursion (λ card. card < n) cards
+all_below n [] is = tt
+all_below n (card ∷ cards) is =
+    let parts = in_deck-cons n card cards is in
+    (parts.0, all_below n cards parts.1)
+
+pub below_all : (n : ℕ) (cards : List ℕ) → AllByRecursion (λ card. card < n) cards → in_deck n cards ≡ true
+below_all n [] all = refl
+below_all n (card ∷ cards) all = rw (lt-ltb card n all.0) (below_all n cards all.1)
+
+pub below_more : (n m : ℕ) (cards : List ℕ) → n ≤ m → AllByRecursion (λ card. card < n) cards → AllByRecursion (λ card. card < m) cards
+below_more n m [] most all = tt
+below_more n m (card ∷ cards) most all = (omega (arith, all.0), below_more n m cards most all.1)

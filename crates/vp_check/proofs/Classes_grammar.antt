@@ -24,23 +24,10 @@ use Rattle.vp_check.specs.Certificates.{IsClassLine}
 use Rattle.vp_check.specs.Reading.{of_deck, class_of, return_of, row_of, may_follow, class_or_return, class_lines}
 use Rattle.vp_check.specs.Spelling.{class_words, return_words}
 use Rattle.vp_check.specs.declared.class_line.ClassLine.{ClassLine}
+use Rattle.vp_card.proofs.InDeck.{all_below, below_all, below_more}
 use Rattle.vp_card.proofs.Rises.{rises-increasing, increasing-rises}
 
 -- ---- cards
-
-all_below : (n : ℕ) (cards : List ℕ) → in_deck n cards ≡ true → AllByRecursion (λ card. card < n) cards
-all_below n [] is = tt
-all_below n (card ∷ cards) is =
-    let parts = both_true (nat_lt card n) (in_deck n cards) is in
-    (ltb-true card n parts.0, all_below n cards parts.1)
-
-below_all : (n : ℕ) (cards : List ℕ) → AllByRecursion (λ card. card < n) cards → in_deck n cards ≡ true
-below_all n [] all = refl
-below_all n (card ∷ cards) all = rw (lt-ltb card n all.0) (below_all n cards all.1)
-
-below_more : (n m : ℕ) (cards : List ℕ) → n ≤ m → AllByRecursion (λ card. card < n) cards → AllByRecursion (λ card. card < m) cards
-below_more n m [] most all = tt
-below_more n m (card ∷ cards) most all = (omega (arith, all.0), below_more n m cards most all.1)
 
 -- five rising cards of a deck are a deal
 pub rising_deal : (n : ℕ) (cards : List ℕ) → length cards ≡ 5 → rises cards ≡ true → in_deck n cards ≡ true → IsDeal n cards

@@ -4,7 +4,7 @@
 mod lines;
 mod words;
 
-pub use lines::{put_lines, put_words};
+pub use lines::{add_cards, put_lines, put_words};
 pub use words::Word;
 
 #[cfg(test)]

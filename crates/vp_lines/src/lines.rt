@@ -22,9 +22,9 @@ fn add_card(out: &mut Out, card: Card)
     out.word(&card.text());
 }
 
-/// Appends the texts of the cards.
+/// Appends the texts of the cards, in their order.
 #[tactic(auto, using(vp_text::proofs::WithWords::words_next))]
-fn add_cards(out: &mut Out, cards: &[Card])
+pub fn add_cards(out: &mut Out, cards: &[Card])
     requires { length out.old + 3 * length cards.now < 512 }
     ensures words { out.new ≡ with_words out.old (map card_text cards.now) }
     ensures room { length out.new ≤ length out.old + 3 * length cards.now }

@@ -1,35 +1,15 @@
 //! Games, written line by line.
 
-ghost use Rattle.std.specs.Prelude.{◌≡◌, ◌+◌, ◌*◌, ◌<◌, ◌≤◌, [], ◌∷◌, ◌++◌, length, map, OnOk, OnErr};
+ghost use Rattle.std.specs.Prelude.{◌≡◌, ◌+◌, ◌<◌, ◌≤◌, [], ◌∷◌, ◌++◌, length, OnOk, OnErr};
 ghost use Rattle.std.specs.Fmt.{decimal};
-ghost use Rattle.vp_card.specs.Texts.{card_text};
-ghost use Rattle.vp_text.specs.Written.{line_of, with_word, with_words};
+ghost use Rattle.vp_text.specs.Written.{line_of, with_words};
 ghost use Rattle.vp_loggram.specs.Spelling.{event_words, key_cards, key_number};
 
 use crate::Event;
 use std::alloc::AllocError;
 use vp_card::Card;
+use vp_lines::add_cards;
 use vp_text::Out;
-
-#[tactic(auto, using(vp_text::proofs::Room::length_with_word))]
-fn add_card(out: &mut Out, card: Card)
-    requires { length out.old + 3 < 512 }
-    ensures word { out.new ≡ with_word out.old (card_text card) }
-    ensures room { length out.new ≤ length out.old + 3 }
-{
-    out.word(&card.text());
-}
-
-#[tactic(auto, using(vp_text::proofs::WithWords::words_next))]
-fn add_cards(out: &mut Out, cards: &[Card])
-    requires { length out.old + 3 * length cards.now < 512 }
-    ensures words { out.new ≡ with_words out.old (map card_text cards.now) }
-    ensures room { length out.new ≤ length out.old + 3 * length cards.now }
-{
-    for card in cards {
-        add_card(out, *card);
-    }
-}
 
 #[tactic(auto, using(vp_text::proofs::WithWords::with_words_append, vp_text::proofs::Room::length_with_word))]
 fn add_key_cards(out: &mut Out, key: &[u8], cards: &[Card])

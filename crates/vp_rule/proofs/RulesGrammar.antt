@@ -1,13 +1,12 @@
 -- Rules and exceptions: each is read from its words, and from no others.
-use Rattle.std.proofs.Common.{◌≡◌, ℕ, ◌<◌, ◌≤◌, true, ◌&&◌, nat_lt, List, [], ◌∷◌, ◌++◌, map, length, refl, sym, ap, ◌∙◌, arith, Some, None}
+use Rattle.std.proofs.Common.{◌≡◌, ℕ, ◌<◌, ◌≤◌, true, ◌&&◌, List, [], ◌∷◌, ◌++◌, map, length, refl, sym, ap, ◌∙◌, arith, Some, None}
 use Rattle.std.specs.Prelude.{codes, flat_map}
 use Rattle.std.specs.Fmt.{decimal}
-use Rattle.std.specs.List.{AllByRecursion}
-use Rattle.std.proofs.lemmas.Bool.{lt-ltb, ltb-true}
 use Rattle.std.proofs.lemmas.List.Elements.{All-from_recursion}
 use Rattle.vp_card.specs.Cards.{IsDeck, in_deck, rises}
 use Rattle.vp_card.specs.Texts.{card_text}
 use Rattle.vp_card.specs.Reading.{card_of}
+use Rattle.vp_card.proofs.InDeck.{all_below, below_all, below_more}
 use Rattle.vp_card.proofs.Rises.{rises-increasing, increasing-rises}
 use Rattle.vp_text.specs.Lines.{Word}
 use Rattle.vp_text.specs.Pieces.{AreUpTo, so_many, up_to_end}
@@ -66,20 +65,6 @@ module _ (version : ℕ) (table : PayTable) (is_table : IsTable table) where
   Exact-rule = record { takes = λ words rule read. rule_taken words rule read; again = λ rule is. rule_again rule is }
 
 -- ---- exceptions
-
-all_below : (n : ℕ) (cards : List ℕ) → in_deck n cards ≡ true → AllByRecursion (λ card. card < n) cards
-all_below n [] is = tt
-all_below n (card ∷ cards) is =
-    let parts = both_true (nat_lt card n) (in_deck n cards) is in
-    (ltb-true card n parts.0, all_below n cards parts.1)
-
-below_all : (n : ℕ) (cards : List ℕ) → AllByRecursion (λ card. card < n) cards → in_deck n cards ≡ true
-below_all n [] all = refl
-below_all n (card ∷ cards) all = rw (lt-ltb card n all.0) (below_all n cards all.1)
-
-below_more : (n m : ℕ) (cards : List ℕ) → n ≤ m → AllByRecursion (λ card. card < n) cards → AllByRecursion (λ card. card < m) cards
-below_more n m [] most all = tt
-below_more n m (card ∷ cards) most all = (omega (arith, all.0), below_more n m cards most all.1)
 
 rising_deal : (n : ℕ) (cards : List ℕ) → length cards ≡ 5 → rises cards ≡ true → in_deck n cards ≡ true → IsDeal n cards
 rising_deal n cards five rise below = record {
