@@ -39,7 +39,8 @@ pub struct Crossed {
 }
 
 /// What the holds that are printed for the game that is played are worth in the game that prices them, a game of the same
-/// deck and the same number of coins. The printed hold of a deal is the least best mask of its class's representative.
+/// deck and the same number of coins. The printed holds of a deal are the least best mask of its class's representative,
+/// carried back by a turn of the suits.
 pub fn cross(played: &Game, priced: &Game) -> Crossed
     requires deck { played.now.table.deck ≡ priced.now.table.deck }
     requires coin { played.now.coin ≡ priced.now.coin }

@@ -29,19 +29,19 @@ second_moment table coin k cards = k * printed_square table coin cards * common 
 unfoldable pub variance_within : PayTable → ℕ → List ℕ → ℕ
 variance_within table coin cards = printed_square table coin cards * common table.deck - squared_value table coin cards
 
--- the mean total of k hands over all deals
+-- the mean total of k hands from each deal, summed over all deals
 unfoldable pub mean_sum : PayTable → ℕ → ℕ → ℕ
 mean_sum table coin k = sum_by (first_moment table coin k) (deals table.deck)
 
--- the mean square of the total of k hands over all deals
+-- the mean square of the total of k hands from each deal, summed over all deals
 unfoldable pub second_sum : PayTable → ℕ → ℕ → ℕ
 second_sum table coin k = sum_by (second_moment table coin k) (deals table.deck)
 
--- the mean over all deals of the variance of one hand from the deal
+-- the variance of one hand from each deal, summed over all deals
 unfoldable pub within_sum : PayTable → ℕ → ℕ
 within_sum table coin = sum_by (variance_within table coin) (deals table.deck)
 
--- the variance over all deals of the value of the deal
+-- the variance over all deals of the value of the deal, times the square of the number of deals
 unfoldable pub between_sum : PayTable → ℕ → ℕ
 between_sum table coin = choose table.deck 5 * sum_by (squared_value table coin) (deals table.deck) - sum_of_best table coin * sum_of_best table coin
 

@@ -1,5 +1,5 @@
 -- What `hits` prints of each pay table that it takes, and how its lines are put.
-use Rattle.std.proofs.Common.{◌≡◌, ℕ, zero, suc, ◌+◌, ◌<◌, ◌≤◌, List, [], ◌∷◌, ◌++◌, Some, None, length, drop, drop-cons, get_or, refl, sym, ap, ◌∙◌, arith}
+use Rattle.std.proofs.Common.{◌≡◌, ℕ, zero, suc, ◌+◌, ◌<◌, ◌≤◌, List, [], ◌∷◌, ◌++◌, Option, Some, None, length, drop, drop-cons, get_or, refl, sym, ap, ◌∙◌, arith}
 use Rattle.std.specs.Prelude.{Ok}
 use Rattle.std.proofs.lemmas.Grind.{flat_map-append}
 use Rattle.vp_text.specs.Lines.{Word}
@@ -9,9 +9,11 @@ use Rattle.vp_pay.specs.Table.{IsTable}
 use Rattle.vp_pay.specs.declared.table.PayLine.{PayLine}
 use Rattle.vp_pay.specs.declared.table.PayTable.{PayTable}
 use Rattle.vp_suit.specs.Classes.{IsDeal}
-use Rattle.vp_draws.specs.Draws.{IsPrintedHold, return_denominator, sum_of_best}
+use Rattle.vp_suit.proofs.TurnedDraws.{dealt_is}
+use Rattle.vp_draws.specs.Draws.{IsMean, IsPrintedHold, return_denominator, sum_of_best}
 use Rattle.vp_draws.proofs.Printed.{has_printed_hold, printed_best}
-use Rattle.vp_hits.specs.Hits.{often}
+use Rattle.vp_draws.proofs.Values.{scaled_mean}
+use Rattle.vp_hits.specs.Hits.{chance, hits, often}
 use Rattle.vp_hits.proofs.Printed.{printed_alike}
 use Rattle.vp_hits.proofs.Shares.{lines_make_the_return, lines_share_out_draws}
 use Rattle.vp_answer.specs.Answers.{Answer, answer_read, done}
@@ -33,9 +35,15 @@ hits_as : (words : List Word) (coin : ℕ) (bytes : List ℕ) (table : PayTable)
 hits_as words coin bytes table is says =
     ap (λ r. answer_read job_answer (read_as (hits_job coin) r)) (sym says) ∙ answer_as words (Some (Over (Hits coin))) bytes is
 
+-- what the hits are scaled to is the share of the draws that end so
+hits_share : (table : PayTable) (place : Option ℕ) (cards : List ℕ) (mask : ℕ) → IsTable table → IsDeal table.deck cards → IsMean table.deck cards mask (hits table place cards mask) (chance table place cards mask)
+unfolding chance
+hits_share table place cards mask known deal = scaled_mean table.deck cards mask (hits table place cards mask) known.known_deck (dealt_is table.deck cards deal)
+
 deal_chances : (s : Staked) (cards : List ℕ) (mask : ℕ) → IsTable s.table → IsDeal s.table.deck cards → IsPrintedHold s.table s.coin cards mask → HasChances s cards mask
 deal_chances s cards mask known deal hold = record {
   best = printed_best s.table s.coin cards mask known.known_deck.0 deal hold;
+  share = λ place. hits_share s.table place cards mask known deal;
   alike = λ place. printed_alike s.table s.coin place cards mask known deal hold;
 }
 

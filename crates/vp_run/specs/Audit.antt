@@ -1,5 +1,4 @@
--- `audit`: what its input says, what it prints, and what that tells. Input and text are this program's own (docs/FORMATS.md,
--- `vpoker audit`).
+-- `audit`: what its input says, and what it prints. Input and text are this program's own (docs/FORMATS.md, `vpoker audit`).
 use Rattle.std.specs.Prelude.{ℕ, ◌+◌, List, [], ◌∷◌, ◌++◌, Result, codes}
 use Rattle.std.specs.Fmt.{decimal}
 use Rattle.vp_text.specs.Lines.{Word}

@@ -6,8 +6,8 @@ use Rattle.vp_pay.specs.declared.table.PayTable.{PayTable}
 use Rattle.vp_sets.specs.Draws.{common}
 use Rattle.vp_sets.specs.Sets.{choose}
 use Rattle.vp_suit.specs.Classes.{IsDeal}
-use Rattle.vp_draws.specs.Draws.{IsPrintedHold, best, sum_of_best, value}
-use Rattle.vp_hits.specs.Hits.{chance, often, payments, printed_chance}
+use Rattle.vp_draws.specs.Draws.{IsMean, IsPrintedHold, best, sum_of_best, value}
+use Rattle.vp_hits.specs.Hits.{chance, hits, often, payments, printed_chance}
 use Rattle.vp_hits.specs.Laws.{over_lines}
 use Rattle.vp_answer.specs.Answers.{Answer}
 use Rattle.vp_answer.specs.declared.status.Status.TheVariants.{Done}
@@ -18,9 +18,11 @@ use Rattle.vp_run.specs.Hits.{hits_input, hits_lines}
 use Rattle.vp_run.specs.declared.command.Command.TheVariants.{Over}
 use Rattle.vp_run.specs.declared.command.Task.TheVariants.{Hits}
 
--- a printed hold of a deal: none of the 32 holds is worth more, and it hits each line, and none, as often as the deal does
+-- a printed hold of a deal: none of the 32 holds is worth more; of each line, and of none, its chance over the common denominator is exactly
+-- the share of its draws that end so; and that is the chance of the deal
 pub record HasChances (s : Staked) (cards : List ℕ) (mask : ℕ) : Type 0 where
   pub best : value s.table s.coin cards mask ≡ best s.table s.coin cards
+  pub share : (place : Option ℕ) → IsMean s.table.deck cards mask (hits s.table place cards mask) (chance s.table place cards mask)
   pub alike : (place : Option ℕ) → chance s.table place cards mask ≡ printed_chance s.table s.coin place cards
 
 -- The answer is a line for each pay line, and two more. Each deal has a printed hold, and each printed hold has the deal's chances, whose

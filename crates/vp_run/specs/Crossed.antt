@@ -24,7 +24,7 @@ pub record IsCrossedHold (c : Crossing) (cards : List ℕ) (mask : ℕ) : Type 0
   pub mean : IsMean c.priced.deck cards mask (total c.priced c.coin cards mask) (value c.priced c.coin cards mask)
   pub cost : value c.priced c.coin cards mask + cost c.played c.priced c.coin cards ≡ best c.priced c.coin cards
 
--- The answer are the lines of the sums, and of the class that costs most. Each deal has a hold that the first table prints, and each such
+-- The answer are the lines of the sums, of how many classes and deals cost something, and of the class that costs most. Each deal has a hold that the first table prints, and each such
 -- hold is a crossed hold; the printed sums are those of the best values, of the crossed values and of the costs, over all deals; the
 -- worst class costs most, and there is none exactly where nothing is lost
 pub record PrintsCross (c : Crossing) (due : Answer) : Type 0 where

@@ -1,4 +1,4 @@
--- `deal`: what its input says, what it prints, and what that tells. Input and text are this program's own (docs/FORMATS.md, `vpoker deal`).
+-- `deal`: what its input says, and what it prints. Input and text are this program's own (docs/FORMATS.md, `vpoker deal`).
 use Rattle.std.specs.Prelude.{◌≡◌, ℕ, true, nat_le, Bool, List, [], ◌∷◌, ◌++◌, Result, codes, map}
 use Rattle.std.specs.Fmt.{decimal}
 use Rattle.vp_card.specs.Cards.{IsHand, held, in_deck, in_order}

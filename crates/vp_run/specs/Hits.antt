@@ -1,4 +1,4 @@
--- `hits`: what its input says, what it prints, and what that tells. Input and text are this program's own (docs/FORMATS.md, `vpoker hits`).
+-- `hits`: what its input says, and what it prints. Input and text are this program's own (docs/FORMATS.md, `vpoker hits`).
 use Rattle.std.specs.Prelude.{ℕ, ◌+◌, ◌-◌, List, [], ◌∷◌, ◌++◌, Some, None, Result, codes, slice_index}
 use Rattle.std.specs.Fmt.{decimal}
 use Rattle.vp_text.specs.Lines.{Word}

@@ -11,10 +11,10 @@ use Rattle.vp_run.specs.declared.command.Command.TheVariants.{Over, Tables}
 use Rattle.vp_run.specs.declared.job.Job.{Job}
 use Rattle.vp_run.specs.declared.job.Job.TheVariants.{Certify, Checked, Deal, Replay, Sessions, Meter, Audit, Multi, Play, Compile, Cross, Hits}
 
--- `deal`, `certify` and `audit` need a table of sums for the deck of their pay table, `multi`, `hits` and `cross` two, and `replay` and
--- `sessions` one for each bet; `check`
--- walks the draws in place; `meter` needs two such tables, and four words for each payment; `play` needs one for each bet, and one more;
--- `compile` needs one, and words for its matrix
+-- `deal`, `certify` and `audit` need a table of sums for the deck of their pay table, `multi` and `cross` two, and `replay` and
+-- `sessions` one for each bet; `hits` needs one, and as many words again for its masks; `check` walks the draws in place; `meter` needs
+-- two such tables, and four words for each payment; `play` needs one for each bet, and one more; `compile` needs one, and words for its
+-- matrix
 abbrev pub job_words : Job → ℕ
 job_words (Deal d) = first_word d.table.deck 6
 job_words (Certify s) = first_word s.table.deck 6

@@ -29,8 +29,9 @@ pub record HasMoments (d : Drawn) (cards : List ℕ) (mask : ℕ) : Type 0 where
       → (first ≡ first_moment d.table d.coin d.hands cards) × (second ≡ second_moment d.table d.coin d.hands cards)
 
 -- The answer is the four lines of the moments. Each deal has a printed hold, and each printed hold has the deal's moments; the printed
--- mean, second moment and variance within are their sums over all deals; and the variance, which is what the second moment times the number of deals
--- exceeds the square of the mean, is that within the draws of a deal for each hand, and that between the deals for each two hands
+-- mean, second moment and variance within are their sums over all deals; and the variance of k hands, which is what the second moment
+-- times the number of deals exceeds the square of the mean, is k times that within the draws of a deal and k * k times that between the
+-- deals
 pub record PrintsMoments (d : Drawn) (due : Answer) : Type 0 where
   pub status : due.status ≡ Done
   pub text : due.text ≡ written (multi_lines d)

@@ -1,5 +1,4 @@
--- `replay`: what its input says, what it prints, and what that tells. Input and text are this program's own (docs/FORMATS.md,
--- `vpoker replay`).
+-- `replay`: what its input says, and what it prints. Input and text are this program's own (docs/FORMATS.md, `vpoker replay`).
 use Rattle.std.specs.Prelude.{◌≡◌, ℕ, Bool, true, List, Result, None}
 use Rattle.vp_pay.specs.Table.{IsTable}
 use Rattle.vp_pay.specs.declared.table.PayTable.{PayTable}

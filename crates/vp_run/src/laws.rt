@@ -195,15 +195,16 @@ pub fn audits_print_losses()
 /// The answer of `multi` to each pay table that it takes are four lines, whose numbers are the moments of the total payment
 /// of several hands from one deal: each deal has a printed hold, to which its hands are drawn; the moments of the deal over
 /// all lists of draws, each as likely as the others, are these and no others; the mean and the second moment are summed
-/// over all deals; and the variance is that within the draws of a deal, once for each hand, and that between the deals,
-/// once for each pair of hands.
+/// over all deals; and the variance of k hands is k times that within the draws of a deal and k * k times that between the
+/// deals.
 pub fn multis_print_moments()
     ensures { MultisPrintMoments }
 {}
 
 /// The answer of `hits` to each pay table that it takes prints the chances of the pay lines under the printed holds: each
-/// deal has a printed hold, and all that it has are best and end with each line as often; the printed numbers are the sums
-/// of these chances over all deals. Together with that of no line they make all draws, and what the lines pay is the return.
+/// deal has a printed hold, and all that it has are best and end with each line as often, their chances being exactly the
+/// shares of their draws that do; the printed numbers are the sums of these chances over all deals. Together with that of
+/// no line they make all draws, and what the lines pay is the return.
 pub fn hits_print_chances()
     ensures { HitsPrintChances }
 {}
