@@ -7,15 +7,14 @@ use Rattle.vp_pay.specs.Table.{IsTable}
 use Rattle.vp_sets.specs.Draws.{common, draws, sum_over_draws}
 use Rattle.vp_suit.specs.Classes.{IsDeal}
 use Rattle.vp_suit.proofs.TurnedDraws.{dealt_is}
-use Rattle.vp_draws.specs.Draws.{IsPrintedHold, best, total, total2, value, value2}
+use Rattle.vp_draws.specs.Draws.{IsPrintedHold, total, total2, value, value2}
 use Rattle.vp_draws.proofs.Printed.{has_printed_hold}
 use Rattle.vp_draws.proofs.Values.{value_mean, value2_mean}
-use Rattle.vp_multi.specs.Moments.{AreMoments, paid, total_of, squares_of, sum_of_totals, sum_of_squares}
+use Rattle.vp_multi.specs.Moments.{AreMoments, paid, total_of, squares_of}
 use Rattle.vp_multi.specs.Sums.{printed_square, squared_value, first_moment, second_moment}
 use Rattle.vp_multi.proofs.Tuples.{total_is, squares_is, first_total, second_total, cancel, power_zero, power_suc}
 use Rattle.vp_multi.proofs.Squares.{square_of_sum, le_cancel}
 use Rattle.vp_multi.proofs.Printed.{printed_alike}
-use Rattle.vp_sets.specs.Sets.{choose}
 use Rattle.vp_sets.specs.Draws.{discarded}
 use Rattle.vp_sets.proofs.Binomials.{choose_pos}
 use Rattle.vp_sets.proofs.Holds.{length-draws, length-held}

@@ -3,14 +3,12 @@ use Rattle.std.proofs.Common.{◌≡◌, ℕ, ◌+◌, ◌-◌, ◌*◌, ◌^◌
 use Rattle.std.specs.Prelude.{sum_by}
 use Rattle.std.proofs.Math.Nat.{mul-le-mul_left, mul-le-mul_right}
 use Rattle.std.proofs.lemmas.List.Sums.{sum_by-cons}
-use Rattle.vp_card.specs.Cards.{IsDeck}
 use Rattle.vp_pay.specs.declared.table.PayTable.{PayTable}
 use Rattle.vp_pay.specs.Table.{IsTable}
-use Rattle.vp_sets.specs.Sets.{choose, combos, deck}
+use Rattle.vp_sets.specs.Sets.{choose, deck}
 use Rattle.vp_sets.specs.Draws.{common}
 use Rattle.vp_sets.proofs.Decks.{length-deck}
 use Rattle.vp_sets.proofs.Denominators.{common_small}
-use Rattle.vp_sets.proofs.Pascal.{ways_are}
 use Rattle.vp_sets.proofs.Sublists.{length-combos, sum_by-plus}
 use Rattle.vp_sets.proofs.Sums.{sum_of_times, sum_times}
 use Rattle.vp_suit.specs.Classes.{representative}

@@ -1,5 +1,5 @@
 -- The lines of rules that are left to put.
-use Rattle.std.proofs.Common.{append-nil, codes, ◌≡◌, ℕ, zero, suc, ◌+◌, ◌<◌, ◌≤◌, List, [], ◌∷◌, ◌++◌, length, drop, drop-cons, get_or, refl, ap, sym, ◌∙◌, arith}
+use Rattle.std.proofs.Common.{append-nil, codes, ◌≡◌, ℕ, zero, suc, ◌+◌, ◌<◌, ◌≤◌, List, [], ◌∷◌, ◌++◌, length, drop, drop-cons, get_or, refl, ap, ◌∙◌, arith}
 use Rattle.std.proofs.lemmas.Grind.{flat_map-append}
 use Rattle.vp_text.specs.Written.{line_of, written}
 use Rattle.vp_pay.specs.declared.table.PayTable.{PayTable}

@@ -1,6 +1,6 @@
 -- What the answer of `compile` tells, and that its list is audited.
-use Rattle.std.proofs.Common.{◌≡◌, ◌≢◌, ℕ, ◌+◌, ◌*◌, ◌-◌, ◌/◌, ◌^◌, ◌<◌, ◌≤◌, true, List, [], ◌∷◌, ◌++◌, map, length, refl, sym, ap, subst, ◌∙◌, arith, append_assoc, append-nil, length-append, Some}
-use Rattle.std.specs.Prelude.{IsTrue, Ok, codes, nat_le}
+use Rattle.std.proofs.Common.{◌≡◌, ◌≢◌, ℕ, ◌+◌, ◌*◌, ◌-◌, ◌/◌, ◌^◌, ◌<◌, ◌≤◌, List, [], ◌∷◌, ◌++◌, map, length, refl, sym, ap, subst, ◌∙◌, arith, append_assoc, append-nil, length-append, Some}
+use Rattle.std.specs.Prelude.{IsTrue, Ok, codes}
 use Rattle.std.specs.Fmt.{decimal}
 use Rattle.std.specs.List.{AllByRecursion, range_with_len, sum_by}
 use Rattle.std.proofs.lemmas.Bool.{le-leb}
@@ -32,23 +32,20 @@ use Rattle.vp_compile.specs.Rows.{Row, row_at, value_loss}
 use Rattle.vp_compile.proofs.OrderLaws.{order_kept_at}
 use Rattle.vp_check.proofs.FewClasses.{few_classes}
 use Rattle.vp_check.proofs.ShortTexts.{short_table}
-use Rattle.vp_suit.specs.Laws.{deals}
 use Rattle.vp_audit.specs.Audits.{audited, loss}
-use Rattle.vp_audit.specs.Masked.{masked_list}
 use Rattle.vp_audit.specs.Compiled.{best_exception, ordered_list}
-use Rattle.vp_audit.specs.Values.{least_value}
 use Rattle.vp_audit.proofs.CompiledLists.{compiled_is}
 use Rattle.vp_audit.proofs.MaskedLists.{best_lose_least}
 use Rattle.vp_audit.proofs.OrderLosses.{left_is, order_is}
 use Rattle.vp_answer.specs.Answers.{Answer, answer_read, done}
 use Rattle.vp_run.specs.Answer.{answer, compile_job, job_answer, read_as}
-use Rattle.vp_run.specs.Audit.{audit_input, audit_lines}
+use Rattle.vp_run.specs.Audit.{audit_input}
 use Rattle.vp_run.specs.Commands.{command_of}
-use Rattle.vp_run.specs.Compile.{IsPooled, Pooled, class_number, compile_input, compile_lines, excepted, first_places, last_places, limit, matrix, printed_list, said_lines}
+use Rattle.vp_run.specs.Compile.{IsPooled, Pooled, compile_input, compile_lines, excepted, first_places, last_places, limit, matrix, printed_list, said_lines}
 use Rattle.vp_run.specs.Deal.{fraction, has_bet}
-use Rattle.vp_run.specs.PrintedLists.{CompiledListsAreAudited, CompiledListsLoseLittle, FewerAreTooFew, IsAudited, IsWithin, NoExchangeHelps, listed}
+use Rattle.vp_run.specs.PrintedLists.{CompiledListsAreAudited, CompiledListsLoseLittle, FewerAreTooFew, IsAudited, IsWithin, NoExchangeHelps}
 use Rattle.vp_run.specs.declared.command.Command.TheVariants.{Over}
-use Rattle.vp_run.specs.declared.command.Task.TheVariants.{Audit, Compile}
+use Rattle.vp_run.specs.declared.command.Task.TheVariants.{Compile}
 use Rattle.vp_run.proofs.CommandWords.{in_range}
 use Rattle.vp_run.proofs.CompiledPools.{fewest, last_whole, printed_loss, row_number, some_places}
 use Rattle.vp_run.proofs.FittingBets.{bet_fits}

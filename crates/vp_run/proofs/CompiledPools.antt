@@ -1,5 +1,5 @@
 -- What is made of a pool, and the words that it takes.
-use Rattle.std.proofs.Common.{◌≡◌, ℕ, ◌+◌, ◌*◌, ◌^◌, ◌<◌, ◌≤◌, List, ◌++◌, length, Result, Ok, Err, arith, refl, sym, ap, subst, ◌∙◌}
+use Rattle.std.proofs.Common.{◌≡◌, ℕ, ◌+◌, ◌*◌, ◌^◌, ◌<◌, ◌≤◌, List, ◌++◌, length, Result, Ok, Err, arith, refl, ap, subst, ◌∙◌}
 use Rattle.std.specs.Prelude.{IfOk}
 use Rattle.std.proofs.lemmas.Grind.{flat_map-append}
 use Rattle.std.proofs.Math.Nat.{mul-le-mul_left}
@@ -13,7 +13,6 @@ use Rattle.vp_suit.proofs.Walks.{few_classes}
 use Rattle.vp_pay.specs.declared.table.PayTable.{PayTable}
 use Rattle.vp_count.specs.Table.{first_word}
 use Rattle.vp_count.proofs.Words.{first_word_small}
-use Rattle.vp_draws.specs.Draws.{sum_of_best}
 use Rattle.vp_rule.specs.Spelling.{list_text}
 use Rattle.vp_compile.specs.Compiled.{last_order, own_order}
 use Rattle.vp_compile.specs.Excepted.{AreFewest, ArePlaces, excepted_places, loss_left}
@@ -24,7 +23,7 @@ use Rattle.vp_compile.specs.declared.compiling.Compiled.{Compiled}
 use Rattle.vp_compile.proofs.Fewest.{are_the_fewest}
 use Rattle.vp_compile.proofs.Settled.{settled_last}
 use Rattle.vp_audit.specs.Audits.{loss}
-use Rattle.vp_audit.specs.Compiled.{class_row, compiled_list, ordered_list, pool_rows}
+use Rattle.vp_audit.specs.Compiled.{class_row, compiled_list, pool_rows}
 use Rattle.vp_audit.proofs.OrderLosses.{left_is, order_is, worth_is}
 use Rattle.vp_run.specs.Compile.{IsCompiled, IsPooled, Pooled, class_number, compile_lines, excepted, first_places, last_places, limit, matrix, printed_list, said_lines}
 

@@ -19,7 +19,7 @@ use Rattle.vp_answer.specs.Answers.{Answer, answer_read, done}
 use Rattle.vp_answer.proofs.Inputs.{hands_read}
 use Rattle.vp_run.specs.Answer.{answer, deal_job, job_answer, read_as}
 use Rattle.vp_run.specs.Commands.{command_of}
-use Rattle.vp_run.specs.Deal.{Dealt, deal_input, deal_lines, has_bet}
+use Rattle.vp_run.specs.Deal.{deal_input, deal_lines, has_bet}
 use Rattle.vp_run.specs.EveryDeal.{DealsPrintBestHolds}
 use Rattle.vp_run.specs.declared.command.Command.TheVariants.{Over}
 use Rattle.vp_run.specs.declared.command.Task.TheVariants.{Deal}

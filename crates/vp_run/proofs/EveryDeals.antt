@@ -7,7 +7,6 @@ use Rattle.vp_pay.specs.declared.table.PayTable.{PayTable}
 use Rattle.vp_pay.specs.Bets.{IsBet}
 use Rattle.vp_check.specs.Certificates.{Certificate, IsCertificate}
 use Rattle.vp_check.specs.Checking.{check_result, verdict}
-use Rattle.vp_check.specs.EveryDeal.{TellsEveryDeal}
 use Rattle.vp_check.specs.Rules.{Break, first_break}
 use Rattle.vp_check.specs.Spelling.{SpellsCertificate, certificate_text}
 use Rattle.vp_check.specs.Truth.{IsTrueOver, due_certificate}

@@ -13,6 +13,7 @@ pub mod EveryDeals
 pub mod CheckedInParts
 pub mod ReplayWords
 pub mod Replays
+pub mod LogFiles
 pub mod SessionInputs
 pub mod SessionLines
 pub mod SessionAnswers

@@ -1,5 +1,5 @@
 -- The log that is made is read as it is, and its lines are put behind the first one.
-use Rattle.std.proofs.Common.{◌≡◌, ℕ, [], ◌∷◌, ◌++◌, sym, ap, subst, ◌∙◌}
+use Rattle.std.proofs.Common.{◌≡◌, ℕ, [], ◌∷◌, ◌++◌, sym, subst, ◌∙◌}
 use Rattle.std.specs.Prelude.{codes, Result, Ok}
 use Rattle.std.specs.Fmt.{decimal}
 use Rattle.std.proofs.lemmas.List.Concat.{flat_map-cons}
@@ -22,12 +22,12 @@ pub log_accepted : (p : Played) → IsPlayed p → IsAccepted p.table p.coin p.g
 log_accepted p is = accepted p.table p.coin p.seed p.games is.bet is.most
 
 -- the log stands in front of the lines of its text, and no line is left
-pub record StandsAlone (log : LogValue) (feed : Feed) : Type 0 where
+record StandsAlone (log : LogValue) (feed : Feed) : Type 0 where
   pub left : Feed
   pub front : Starts log_text feed log left
   pub end : left.lines ≡ []
 
-pub log_stands : (p : Played) (feed : Feed) → IsPlayed p → feed ≡ feed_of (written (log_text (log_of p))) → StandsAlone (log_of p) feed
+log_stands : (p : Played) (feed : Feed) → IsPlayed p → feed ≡ feed_of (written (log_text (log_of p))) → StandsAlone (log_of p) feed
 log_stands p feed is same =
     let read = (log_accepted p is).read in
     let front = ((Exact-log p.table.deck is.bet.rules.known_deck).takes (feed_of (written (log_text (log_of p)))) read.left (log_of p) read.read).1 in

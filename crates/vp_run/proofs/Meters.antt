@@ -1,14 +1,12 @@
 -- The line with a name, and what the answer of `meter` tells.
-use Rattle.std.proofs.Common.{◌≡◌, ◌⊎◌, inl, inr, ℕ, ◌<◌, ◌≤◌, Bool, true, false, List, [], length, map, get_or, refl, sym, ap, ◌∙◌, arith, Option, Some, None}
+use Rattle.std.proofs.Common.{◌≡◌, ◌⊎◌, ℕ, ◌<◌, ◌≤◌, Bool, true, false, List, [], length, map, get_or, refl, sym, ap, ◌∙◌, Option, Some, None}
 use Rattle.std.specs.Prelude.{Ok, bytes_eq, is_some, slice_index_or, ◌&&◌, if◌then◌else◌}
-use Rattle.std.specs.Option.{unwrap_or}
 use Rattle.std.proofs.lemmas.List.{get_or-map}
 use Rattle.std.proofs.lemmas.List.Quantifiers.{position-Some}
 use Rattle.std.proofs.lemmas.Slice.Eq.{bytes_eq-Decides}
 use Rattle.vp_text.specs.Lines.{Word}
 use Rattle.vp_text.specs.Written.{written}
 use Rattle.vp_pay.specs.Bets.{IsBet}
-use Rattle.vp_pay.specs.Table.{IsTable}
 use Rattle.vp_pay.specs.declared.pattern.Pattern.TheVariants.{Royal}
 use Rattle.vp_pay.specs.declared.pattern.Qualifier.TheVariants.{Either}
 use Rattle.vp_pay.specs.declared.table.PayLine.{PayLine}

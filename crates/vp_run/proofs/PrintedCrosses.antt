@@ -1,17 +1,16 @@
 -- What `cross` prints of each two pay tables that it takes.
-use Rattle.std.proofs.Common.{◌≡◌, ◌↔◌, ℕ, ◌-◌, List, Option, refl, sym, ap, subst, ◌∙◌, arith, Some, None}
-use Rattle.std.specs.Prelude.{Ok, sum_by}
+use Rattle.std.proofs.Common.{◌≡◌, ◌↔◌, ℕ, ◌-◌, List, refl, sym, ap, ◌∙◌, arith, Some}
+use Rattle.std.specs.Prelude.{Ok}
 use Rattle.vp_text.specs.Lines.{Word}
 use Rattle.vp_text.specs.Written.{written}
 use Rattle.vp_pay.specs.Table.{IsTable}
 use Rattle.vp_pay.specs.declared.table.PayTable.{PayTable}
 use Rattle.vp_suit.specs.Classes.{IsDeal}
-use Rattle.vp_suit.specs.Laws.{deals}
 use Rattle.vp_suit.proofs.TurnedDraws.{dealt_is}
-use Rattle.vp_draws.specs.Draws.{IsPrintedHold, best, sum_of_best}
+use Rattle.vp_draws.specs.Draws.{IsPrintedHold, sum_of_best}
 use Rattle.vp_draws.proofs.Printed.{has_printed_hold}
 use Rattle.vp_draws.proofs.Values.{value_mean}
-use Rattle.vp_cross.specs.Crossings.{cost, crossed_value, sum_of_crossed}
+use Rattle.vp_cross.specs.Crossings.{cost, sum_of_crossed}
 use Rattle.vp_cross.proofs.CostLaws.{none_where_equal, worst_is_worst}
 use Rattle.vp_cross.proofs.Costs.{make_up, printed_value}
 use Rattle.vp_cross.proofs.Totals.{costs_add_up, never_exceeds}

@@ -1,30 +1,20 @@
 -- What `sessions` answers to a pay table and a CSV text.
-use Rattle.std.proofs.Common.{◌≡◌, ◌<◌, ◌≤◌, ◌==◌, ℕ, if◌then◌else◌, Bool, true, false, List, [], ◌∷◌, ◌++◌, length, refl, sym, ap, subst, ◌∙◌, arith, inl, inr, append-nil, append_assoc, Option, Some, None}
+use Rattle.std.proofs.Common.{◌≡◌, ◌<◌, ◌≤◌, ◌==◌, ℕ, if◌then◌else◌, Bool, true, false, List, [], ◌∷◌, ◌++◌, length, refl, sym, ap, subst, ◌∙◌, arith, inl, inr, append_assoc, Option, Some, None}
 use Rattle.std.specs.Prelude.{◌↔◌, ◌⊎◌, ◌||◌, Ok, bytes_eq, codes, flat_map, is_some, map}
 use Rattle.std.specs.List.{AllByRecursion}
-use Rattle.std.proofs.lemmas.Grind.{flat_map-append}
 use Rattle.std.proofs.lemmas.Bool.Decides.{nat_tests}
 use Rattle.std.proofs.lemmas.Slice.Eq.{bytes_eq-Decides}
-use Rattle.vp_text.specs.Lines.{Word, feed_of}
-use Rattle.vp_text.specs.Sections.{Text, text_of}
+use Rattle.vp_text.specs.Lines.{Word}
 use Rattle.vp_text.specs.Written.{line_of, written}
-use Rattle.vp_text.proofs.Room.{written-append}
-use Rattle.vp_text.proofs.Spelled.{text_of-append}
-use Rattle.vp_text.proofs.Writing.{written_read}
-use Rattle.vp_pay.specs.Spelling.{table_text}
 use Rattle.vp_pay.specs.Table.{IsTable}
-use Rattle.vp_pay.specs.Written.{IsReadAgain}
 use Rattle.vp_pay.specs.declared.table.PayTable.{PayTable}
-use Rattle.vp_pay.proofs.Plain.{plain_table}
 use Rattle.vp_loggram.specs.Logs.{IsLog, LogValue}
 use Rattle.vp_loggram.specs.Spelling.{log_text}
-use Rattle.vp_loggram.proofs.Log_laws.{written_again}
 use Rattle.vp_csv.specs.Records.{Record, records_in}
 use Rattle.vp_csv.specs.Rules.{knows, names_of, refused_record}
 use Rattle.vp_csv.specs.Sessions.{Session, own, session_of, sessions_in, sessions_of}
 use Rattle.vp_csv.proofs.Closing.{few_games, is_log, log_short}
 use Rattle.vp_csv.proofs.Isolation.{apart}
-use Rattle.vp_check.proofs.ShortTexts.{short_table}
 use Rattle.vp_replay.specs.Rules.{break_in}
 use Rattle.vp_replay.specs.declared.rule.Broken.{Broken}
 use Rattle.vp_answer.specs.Answers.{Answer, answer_read}
@@ -32,36 +22,18 @@ use Rattle.vp_answer.specs.declared.status.Status.{Status}
 use Rattle.vp_answer.specs.declared.status.Status.TheVariants.{Done, Finding}
 use Rattle.vp_run.specs.Answer.{answer, job_answer, judged_log, read_as, sessions_job}
 use Rattle.vp_run.specs.Commands.{command_of}
-use Rattle.vp_run.specs.Replay.{replay_input}
+use Rattle.vp_run.specs.Replay.{log_file}
 use Rattle.vp_run.specs.Sessions.{Mixed, by_record, judged, log_answer, session_text, sessions_answer, sessions_input, sessions_text, status_by, unlawful}
-use Rattle.vp_run.specs.SessionsTold.{HasLines, IsReplayedAlone, NamesRecord, SessionsAreApart, SessionsAreReplayed, TellsSessions, games_in, lines_of, log_file}
+use Rattle.vp_run.specs.SessionsTold.{HasLines, IsReplayedAlone, NamesRecord, SessionsAreApart, SessionsAreReplayed, TellsSessions, games_in, lines_of}
 use Rattle.vp_run.specs.declared.command.Command.TheVariants.{Over}
 use Rattle.vp_run.specs.declared.command.Task.TheVariants.{Replay, Sessions}
 use Rattle.vp_run.proofs.NoCommand.{answer_as}
-use Rattle.vp_run.proofs.Replays.{inputs_read as replay_inputs_read, replay_as}
+use Rattle.vp_run.proofs.LogFiles.{file_says, file_short}
+use Rattle.vp_run.proofs.Replays.{replay_as}
 use Rattle.vp_run.proofs.SessionInputs.{inputs_read}
 use Rattle.vp_run.proofs.SessionLines.{last_line, session_lines}
 
--- ---- a pay table and a log behind it are an input of `replay`
-
-log_lines : (log : LogValue) → IsReadAgain log_text log [] → text_of (feed_of (written (log_text log))).lines ≡ log_text log
-log_lines log again =
-    let s = again.front in
-    ap (λ (bytes : List ℕ). text_of (feed_of bytes).lines) (sym (append-nil (written (log_text log))))
-    ∙ ap text_of s.lines
-    ∙ text_of-append s.front again.left.lines
-    ∙ ap (λ (t : Text). t ++ text_of again.left.lines) s.spelled
-    ∙ ap (λ (t : Text). log_text log ++ t) again.rest
-    ∙ append-nil (log_text log)
-
-file_lines : (table : PayTable) (log : LogValue) → IsTable table → IsLog table.deck log → text_of (feed_of (log_file table log)).lines ≡ table_text table ++ log_text log
-file_lines table log rules is =
-    ap (λ (bytes : List ℕ). text_of (feed_of bytes).lines) (flat_map-append line_of (table_text table) (log_text log))
-    ∙ written_read (table_text table) (written (log_text log)) (plain_table table rules)
-    ∙ ap (λ (t : Text). table_text table ++ t) (log_lines log (written_again table.deck log [] rules.known_deck is))
-
-file_says : (table : PayTable) (log : LogValue) → IsTable table → IsLog table.deck log → replay_input (log_file table log) ≡ Ok (table, log)
-file_says table log rules is = (replay_inputs_read.spelled (log_file table log) (table, log)).1 (log, ((rules, is), refl, file_lines table log rules is), refl)
+-- ---- what `replay` answers to a session
 
 judged_as : (table : PayTable) (log : LogValue) (o : Option Broken) → answer_read job_answer (judged_log table log o) ≡ judged table log o
 judged_as table log None = refl
@@ -75,10 +47,6 @@ replayed table log words rules is asks = sym (replay_as words (log_file table lo
 finding_is : (table : PayTable) (log : LogValue) (o : Option Broken) → is_some o ≡ true ↔ ((judged table log o).status ≡ Finding)
 finding_is table log None = (λ e. absurd cc, λ e. absurd cc)
 finding_is table log (Some b) = (λ e. refl, λ e. refl)
-
--- and it is short enough to be read
-file_short : (table : PayTable) (log : LogValue) → IsTable table → length (written (log_text log)) ≤ 60000000 → length (log_file table log) ≤ 67108864
-file_short table log rules short = omega (arith, written-append (table_text table) (log_text log), short_table table rules, short)
 
 alone : (table : PayTable) (s : Session) → IsTable table → IsLog table.deck s.log → length (written (log_text s.log)) ≤ 60000000 → IsReplayedAlone table s
 alone table s rules is short = record {

@@ -7,9 +7,7 @@ use Rattle.std.proofs.lemmas.List.Concat.{flat_map-append}
 use Rattle.vp_text.specs.Sections.{Text}
 use Rattle.vp_text.specs.Written.{line_of, spaced, written}
 use Rattle.vp_check.specs.Spelling.{certificate_text}
-use Rattle.vp_check.specs.Truth.{due_certificate}
 use Rattle.vp_meter.specs.Spelling.{head_words, meter_text}
-use Rattle.vp_pay.specs.BuiltIn.{built_in}
 use Rattle.vp_pay.specs.Spelling.{table_text}
 use Rattle.vp_replay.specs.Summaries.{cost_lines, summary_lines, summary_of}
 use Rattle.vp_answer.specs.Answers.{answer_read, finding_words}

@@ -28,7 +28,7 @@ use Rattle.vp_run.specs.Commands.{command_of, reads}
 use Rattle.vp_run.specs.Cross.{cross_input, cross_lines}
 use Rattle.vp_run.specs.Deal.{deal_input, deal_lines}
 use Rattle.vp_run.specs.Replay.{replay_input, stop_of}
-use Rattle.vp_run.specs.Sessions.{Mixed, sessions_answer, sessions_input}
+use Rattle.vp_run.specs.Sessions.{sessions_answer, sessions_input}
 use Rattle.vp_run.specs.declared.command.Command.{Command}
 use Rattle.vp_run.specs.declared.command.Command.TheVariants.{Over, Tables}
 use Rattle.vp_run.specs.declared.command.Task.{Task}

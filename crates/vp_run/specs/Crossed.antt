@@ -1,5 +1,5 @@
 -- What the answer of `cross` tells.
-use Rattle.std.specs.Prelude.{◌≡◌, ◌↔◌, ℕ, ◌+◌, ◌-◌, ◌<◌, List, Option, None, Some, Ok, sum_by}
+use Rattle.std.specs.Prelude.{◌≡◌, ◌↔◌, ℕ, ◌+◌, ◌-◌, ◌<◌, List, None, Some, Ok, sum_by}
 use Rattle.vp_text.specs.Lines.{Word}
 use Rattle.vp_text.specs.Written.{written}
 use Rattle.vp_pay.specs.declared.table.PayTable.{PayTable}

@@ -1,10 +1,8 @@
 -- What the answer of `play` tells.
-use Rattle.std.specs.Prelude.{◌≡◌, ℕ, ◌≤◌, List, ◌++◌, length, Some, Ok}
+use Rattle.std.specs.Prelude.{◌≡◌, ℕ, ◌≤◌, List, length, Some, Ok}
 use Rattle.vp_text.specs.Lines.{Word}
 use Rattle.vp_text.specs.Written.{written}
-use Rattle.vp_pay.specs.Spelling.{table_text}
 use Rattle.vp_pay.specs.declared.table.PayTable.{PayTable}
-use Rattle.vp_loggram.specs.Spelling.{log_text}
 use Rattle.vp_replay.specs.Summaries.{replay_lines}
 use Rattle.vp_gen.specs.Promises.{IsAccepted}
 use Rattle.vp_answer.specs.Answers.{Answer, done}
@@ -12,18 +10,15 @@ use Rattle.vp_answer.specs.declared.status.Status.TheVariants.{Done}
 use Rattle.vp_run.specs.Answer.{answer}
 use Rattle.vp_run.specs.Commands.{command_of}
 use Rattle.vp_run.specs.Play.{Played, log_of, play_input, play_lines}
+use Rattle.vp_run.specs.Replay.{log_file}
 use Rattle.vp_run.specs.declared.command.Command.TheVariants.{Over}
 use Rattle.vp_run.specs.declared.command.Task.TheVariants.{Play, Replay}
-
--- the pay table and the log behind it, as they are written
-abbrev pub log_file : Played → List ℕ
-log_file p = written (table_text p.table ++ log_text (log_of p))
 
 -- what is written of the pay table and the log is an input of `replay`, short enough to be read. No game breaks a law, and the answer
 -- is the lines of the costs, and behind them the lines of the numbers, which are those of `play`
 pub record IsReplayed (p : Played) : Type 0 where
-  pub short : length (log_file p) ≤ 67108864
-  pub answered : (words : List Word) → command_of words ≡ Some (Over Replay) → answer words (log_file p) ≡ done (written (replay_lines p.table (log_of p)))
+  pub short : length (log_file p.table (log_of p)) ≤ 67108864
+  pub answered : (words : List Word) → command_of words ≡ Some (Over Replay) → answer words (log_file p.table (log_of p)) ≡ done (written (replay_lines p.table (log_of p)))
 
 -- the answer is the seed, the number of games and the lines of the numbers of a log of so many games for this bet, which is in the grammar
 -- and breaks no law, and `replay` answers it with the same numbers

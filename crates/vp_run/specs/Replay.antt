@@ -1,5 +1,7 @@
 -- `replay`: what its input says, and what it prints. Input and text are this program's own (docs/FORMATS.md, `vpoker replay`).
-use Rattle.std.specs.Prelude.{◌≡◌, ℕ, Bool, true, List, Result, None}
+use Rattle.std.specs.Prelude.{◌≡◌, ℕ, Bool, true, List, ◌++◌, Result, None}
+use Rattle.vp_text.specs.Written.{written}
+use Rattle.vp_pay.specs.Spelling.{table_text}
 use Rattle.vp_pay.specs.Table.{IsTable}
 use Rattle.vp_pay.specs.declared.table.PayTable.{PayTable}
 use Rattle.vp_loggram.specs.Logs.{IsLog, LogValue}
@@ -22,6 +24,10 @@ fits_all table = true
 -- what an input of `replay` says: a pay table, then a log with cards of its deck, and nothing else; or the line where it is refused
 abbrev pub replay_input : List ℕ → Result (PayTable × LogValue) ℕ
 replay_input bytes = section_input fits_all (λ table. log_at table.deck) bytes
+
+-- a pay table and a log behind it, as they are written
+abbrev pub log_file : PayTable → LogValue → List ℕ
+log_file table log = written (table_text table ++ log_text log)
 
 -- a pay table, and a log of games on it
 pub record Logged : Type 0 where

@@ -1,12 +1,10 @@
 -- What the answer of `sessions` tells.
-use Rattle.std.specs.Prelude.{◌≡◌, ◌↔◌, ◌⊎◌, ◌<◌, ◌≤◌, ℕ, true, List, [], ◌∷◌, ◌++◌, length, Option, Some, None, Ok, codes}
+use Rattle.std.specs.Prelude.{◌≡◌, ◌↔◌, ◌⊎◌, ◌<◌, ◌≤◌, ℕ, true, List, [], ◌∷◌, ◌++◌, length, Some, None, Ok, codes}
 use Rattle.std.specs.List.{AllByRecursion}
 use Rattle.vp_text.specs.Lines.{Word}
-use Rattle.vp_text.specs.Written.{line_of, written}
-use Rattle.vp_pay.specs.Spelling.{table_text}
+use Rattle.vp_text.specs.Written.{line_of}
 use Rattle.vp_pay.specs.declared.table.PayTable.{PayTable}
-use Rattle.vp_loggram.specs.Logs.{IsLog, LogValue}
-use Rattle.vp_loggram.specs.Spelling.{log_text}
+use Rattle.vp_loggram.specs.Logs.{IsLog}
 use Rattle.vp_csv.specs.Records.{Record, records_in}
 use Rattle.vp_csv.specs.Rules.{knows, names_of, refused_record}
 use Rattle.vp_csv.specs.Sessions.{Session, behind_first, own, session_of, sessions_of}
@@ -14,15 +12,12 @@ use Rattle.vp_answer.specs.Answers.{Answer, record_refusal}
 use Rattle.vp_answer.specs.declared.status.Status.TheVariants.{Done, Finding}
 use Rattle.vp_run.specs.Answer.{answer}
 use Rattle.vp_run.specs.Commands.{command_of}
+use Rattle.vp_run.specs.Replay.{log_file}
 use Rattle.vp_run.specs.Sessions.{is_unlawful, session_text, sessions_input, sessions_text, unlawful}
 use Rattle.vp_run.specs.declared.command.Command.TheVariants.{Over}
 use Rattle.vp_run.specs.declared.command.Task.TheVariants.{Replay, Sessions}
 
 -- ---- each session is replayed by itself
-
--- the pay table and a log behind it, as they are written
-abbrev pub log_file : PayTable → LogValue → List ℕ
-log_file table log = written (table_text table ++ log_text log)
 
 -- what is written of the pay table and the log of a session is short enough to be an input of `replay`; the lines of the session are its
 -- name, and the answer of `replay` to it; it is unlawful where that is a finding

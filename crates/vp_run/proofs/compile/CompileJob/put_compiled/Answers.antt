@@ -1,11 +1,10 @@
 -- The list is put behind the numbers that are said of it.
-use Rattle.std.proofs.Common.{◌≡◌, length, refl, sym, ap, subst, ◌∙◌}
+use Rattle.std.proofs.Common.{◌≡◌, length, sym, ap, subst, ◌∙◌}
 use Rattle.vp_io.proofs.Puts_laws.{Puts_as, Puts_stopped, Puts_then}
 use Rattle.vp_pay.specs.declared.table.PayTable.{PayTable}
 use Rattle.vp_suit.specs.Classes.{representatives}
 use Rattle.vp_compile.specs.Excepted.{ArePlaces}
 use Rattle.vp_compile.specs.Matrices.{IsOrder}
-use Rattle.vp_rule.specs.Valid.{IsPool}
 use Rattle.vp_run.specs.Compile.{IsPooled, Pooled, excepted, last_places}
 use Rattle.vp_run.proofs.CompiledPools.{compile_text, last_whole, list_as, some_places}
 use Rattle.vp_run.proofs.compile.CompileJob.put_compiled.Goals as goal
