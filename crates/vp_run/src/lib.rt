@@ -36,6 +36,3 @@ pub use laws::{
 pub use serve::{in_region, region_words, served};
 pub use top::{vpoker, vpoker_in_blocks};
 pub use vp_answer::Status;
-
-#[cfg(test)]
-mod tests;

@@ -2,10 +2,10 @@
 
 use crate::tests::deal::{ROYAL_DRAW, ROYAL_DRAW_ANSWER};
 use crate::tests::tables::{ROOM, answered, joined};
-use crate::{Status, vpoker, vpoker_in_blocks};
 use std::test::*;
 use vp_io::{CountSink, MemSink, MemSource, PureSource};
 use vp_pay::samples::{JACKS, ONE_JOKER, ZERO};
+use vp_run::{Status, vpoker, vpoker_in_blocks};
 
 #[test]
 fn every_read_fails_once(rt: HostRuntime) -> Result<(), Fail> {

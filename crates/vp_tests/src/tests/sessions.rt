@@ -1,9 +1,9 @@
 //! `sessions` of CSV texts on 9/6 Jacks or Better for five bets.
 
 use crate::tests::tables::{answered, built_in_deal, joined};
-use crate::{Status, in_region, region_words};
 use std::test::*;
 use vp_pay::samples::TWO_JOKERS;
+use vp_run::{Status, in_region, region_words};
 
 const HEAD: &[u8] = b"session,bet,deal,hold,draw,pay,credits\n";
 

@@ -1,10 +1,10 @@
 //! `check` of certificates that `certify` wrote, as they are and with one thing changed.
 
 use crate::tests::tables::{ROOM, answered, joined};
-use crate::{Status, vpoker};
 use std::test::*;
 use vp_io::{MemSink, PureSource};
 use vp_pay::samples::{JACKS, ONE_JOKER, TWO_JOKERS};
+use vp_run::{Status, vpoker};
 
 const JACKS_RETURN: &[u8] = b"return 19842315923796 / 19933230517200\nend\n";
 

@@ -3,10 +3,10 @@
 ghost use Rattle.std.specs.Prelude.{◌≤◌, length};
 
 use crate::tests::tables::{ROOM, answered, joined};
-use crate::{Status, region_words};
 use std::alloc::{AllocError, Global};
 use std::test::*;
 use vp_pay::samples::{JACKS, KINGS, ONE_JOKER, ZERO};
+use vp_run::{Status, region_words};
 use vp_text::Lines;
 
 #[test]

@@ -2,11 +2,11 @@
 
 ghost use Rattle.std.specs.Prelude.{◌≤◌, length};
 
-use crate::Status;
 use crate::tests::tables::{ROOM, answered, joined};
 use std::alloc::{AllocError, Global};
 use std::test::*;
 use vp_pay::samples::{JACKS, ONE_JOKER};
+use vp_run::Status;
 use vp_text::{Lines, Words, number};
 
 /// Whether the part stands in the text.

@@ -1,11 +1,11 @@
 //! `certify` over sources and sinks in memory.
 
-use crate::Status;
 use crate::tests::tables::{ROOM, answered, built_in_deal, joined};
 use std::test::*;
 use vp_pay::samples::{
     BONUS, DEUCES, JACKS, KINGS, LONG, ONE_JOKER, OPERATORS_JACKS, TWO_JOKERS, ZERO,
 };
+use vp_run::Status;
 
 fn line_feeds(text: &[u8]) -> usize {
     text.iter().filter(|byte| **byte == b'\n').count()

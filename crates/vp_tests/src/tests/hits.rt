@@ -1,9 +1,9 @@
 //! `hits` over sources and sinks in memory.
 
-use crate::Status;
 use crate::tests::tables::{answered, joined};
 use std::test::*;
 use vp_pay::samples::{JACKS, ONE_JOKER, ZERO};
+use vp_run::Status;
 
 // A joker that is dealt is held, and else comes in 5 of 48 draws of five cards. Where nothing pays, all is thrown.
 #[test]

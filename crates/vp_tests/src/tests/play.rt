@@ -1,9 +1,9 @@
 //! `play`: logs that are made from a number, read and priced.
 
 use crate::tests::tables::{answered, joined};
-use crate::{Status, region_words};
 use std::test::*;
 use vp_pay::samples::{ONE_JOKER, ZERO};
+use vp_run::{Status, region_words};
 
 /// The words of two tables of sums for a deck of 52 cards.
 const TWO_TABLES: usize = 2 * 2_893_164;

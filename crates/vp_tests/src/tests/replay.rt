@@ -1,9 +1,9 @@
 //! `replay` of logs on 9/6 Jacks or Better for five bets.
 
 use crate::tests::tables::{answered, built_in_deal, joined};
-use crate::{Status, region_words};
 use std::test::*;
 use vp_pay::samples::{ONE_JOKER, TWO_JOKERS};
+use vp_run::{Status, region_words};
 
 /// A royal flush drawn by its best hold, and then a pat flush held, which gives 4 to the royal flush away.
 const SESSION: &[u8] = b"log 100

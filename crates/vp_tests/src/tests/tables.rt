@@ -1,9 +1,9 @@
 //! What a command answers to an input, for the tests of several commands.
 
-use crate::{Status, vpoker};
 use std::alloc::{AllocError, Global};
 use vp_io::{MemSink, PureSource};
 use vp_pay::PayTable;
+use vp_run::{Status, vpoker};
 
 /// More bytes than the certificate of a deck of 54 cards has.
 pub(crate) const ROOM: usize = 8_000_000;

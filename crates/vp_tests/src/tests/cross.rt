@@ -1,9 +1,9 @@
 //! `cross` over sources and sinks in memory.
 
-use crate::Status;
 use crate::tests::tables::{answered, joined};
 use std::test::*;
 use vp_pay::samples::{JACKS, ONE_JOKER, ZERO};
+use vp_run::Status;
 
 /// Nothing pays, in a deck with a joker.
 const NOTHING: &[u8] = b"table nothing

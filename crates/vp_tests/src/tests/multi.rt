@@ -1,9 +1,9 @@
 //! `multi` over sources and sinks in memory.
 
-use crate::Status;
 use crate::tests::tables::{answered, joined};
 use std::test::*;
 use vp_pay::samples::{JACKS, ONE_JOKER};
+use vp_run::Status;
 
 // A joker pays 1: dealt, it is held, and else comes in 5 of 48 draws of five cards.
 #[test]

@@ -1,13 +1,13 @@
 //! `deal` over sources and sinks in memory.
 
 use crate::tests::tables::{answered, built_in_deal, joined};
-use crate::{Status, in_region, region_words, served};
 use std::test::*;
 use vp_io::MemSink;
 use vp_pay::samples::{
     DEUCES_AND_ACE, GREATEST, JACKS, KICKER, LONG, ONE_JOKER, OPERATORS_JACKS, TWO_JOKERS, ZERO,
 };
 use vp_region::Region;
+use vp_run::{Status, in_region, region_words, served};
 
 pub(crate) const ROYAL_DRAW: &[u8] = b"deal As Ks Qs Js 4s\n";
 

@@ -2,10 +2,10 @@
 
 use crate::tests::deal::{ROYAL_DRAW, ROYAL_DRAW_ANSWER};
 use crate::tests::tables::joined;
-use crate::{Status, run, vpoker};
 use std::test::*;
 use vp_io::{MemSink, MemSource, PureSource};
 use vp_pay::samples::JACKS;
+use vp_run::{Status, run, vpoker};
 
 #[test]
 fn words_that_are_no_command_read_nothing(rt: HostRuntime) {

@@ -1,10 +1,10 @@
 //! `compile` over inputs in memory.
 
-use crate::Status;
 use crate::tests::tables::{answered, joined};
 use std::alloc::{AllocError, Global};
 use std::test::*;
 use vp_pay::samples::{JACKS, ONE_JOKER};
+use vp_run::Status;
 
 /// A run: MILLIONTHS, pay table and pool, and the text that is due.
 #[derive(Drop)]
