@@ -19,5 +19,3 @@ pub use laws::{
 pub use walk::audit;
 pub use writing::put_list;
 
-#[cfg(test)]
-mod tests;

@@ -11,5 +11,3 @@ pub use hand::{Hand, rising_hand};
 pub use rank_set::{RankSet, rank_set_texts_differ};
 pub use ranks::{rank_letter, rank_of};
 
-#[cfg(test)]
-mod tests;

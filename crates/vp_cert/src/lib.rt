@@ -11,5 +11,3 @@ pub use asked::Asked;
 pub use certificate::certify;
 pub use holds::Holds;
 
-#[cfg(test)]
-mod tests;

@@ -12,8 +12,6 @@ mod numbered;
 mod reading;
 mod rules;
 mod spellings;
-#[cfg(test)]
-mod tests;
 mod walk;
 
 pub use checker::check;

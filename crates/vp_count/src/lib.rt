@@ -16,5 +16,3 @@ pub use sums::Sums;
 pub use table::table_words;
 pub use totals::{all_totals, held_total};
 
-#[cfg(test)]
-mod tests;

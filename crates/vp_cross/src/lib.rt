@@ -3,8 +3,6 @@
 
 mod crossed;
 mod laws;
-#[cfg(test)]
-mod tests;
 
 pub use crossed::{Crossed, Worst, cross};
 pub use laws::{

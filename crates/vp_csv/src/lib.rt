@@ -14,5 +14,3 @@ pub use laws::{first_breaks_are_refused, records_are_spelled, sessions_are_apart
 pub use sessions::Sessions;
 pub use stop::CsvStop;
 
-#[cfg(test)]
-mod tests;

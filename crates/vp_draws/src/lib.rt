@@ -4,8 +4,6 @@
 mod best;
 mod laws;
 mod returns;
-#[cfg(test)]
-mod tests;
 mod walk;
 
 pub use best::{Best, better, cards_drawn, plain_best, value_of};

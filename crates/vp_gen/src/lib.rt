@@ -10,5 +10,3 @@ mod numbers;
 pub use laws::made_logs_are_accepted;
 pub use logs::make_log;
 
-#[cfg(test)]
-mod tests;

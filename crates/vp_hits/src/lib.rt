@@ -7,8 +7,6 @@ mod line_hits;
 mod line_numbers;
 mod pair_hits;
 mod printed_holds;
-#[cfg(test)]
-mod tests;
 mod totals;
 
 pub use counts::{LineCounts, line_counts};

@@ -5,8 +5,6 @@ mod game;
 mod payments;
 mod scales;
 mod squares;
-#[cfg(test)]
-mod tests;
 
 pub use game::Game;
 pub use scales::hold_scales;

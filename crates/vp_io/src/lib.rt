@@ -28,5 +28,3 @@ pub use sink::Sink;
 pub use source::Source;
 pub use whole::{LIMIT, put, read_all};
 
-#[cfg(test)]
-mod tests;

@@ -7,5 +7,3 @@ mod words;
 pub use lines::{add_cards, put_lines, put_words};
 pub use words::Word;
 
-#[cfg(test)]
-mod tests;

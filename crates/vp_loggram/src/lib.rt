@@ -13,5 +13,3 @@ pub use events::Events;
 pub use laws::{log_spellings_differ, written_logs_are_read};
 pub use log::Log;
 
-#[cfg(test)]
-mod tests;

@@ -10,8 +10,6 @@ mod pieces;
 mod report;
 mod segment;
 mod tallies;
-#[cfg(test)]
-mod tests;
 mod writing;
 
 pub use laws::{meters_tell_every_deal, pieces_sum_all_deals, values_are_straight_lines};

@@ -19,5 +19,3 @@ pub use reading::table_spellings_differ;
 pub use table::{PayLine, PayTable};
 pub use writing::written_tables_are_read;
 
-#[cfg(test)]
-mod tests;

@@ -5,5 +5,3 @@ mod shape;
 
 pub use shape::{Shape, is_wild, is_wild_card};
 
-#[cfg(test)]
-mod tests;

@@ -97,5 +97,3 @@ impl<'a> Carver<'a> {
     }
 }
 
-#[cfg(test)]
-mod tests;

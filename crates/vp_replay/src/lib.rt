@@ -9,8 +9,6 @@ mod replaying;
 mod rule;
 mod rules;
 mod summary;
-#[cfg(test)]
-mod tests;
 
 pub use breaks::lawful;
 pub use costs::{cost, cost_at};

@@ -13,8 +13,6 @@ mod rule;
 mod rule_words;
 mod spellings;
 mod test_words;
-#[cfg(test)]
-mod tests;
 mod writing;
 
 pub use exceptions::Exceptions;

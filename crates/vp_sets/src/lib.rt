@@ -87,5 +87,3 @@ pub fn scale(n: u8, k: u8) -> u64
     common(n) / choose(n - 5, k)
 }
 
-#[cfg(test)]
-mod tests;

@@ -9,8 +9,6 @@ mod heaps;
 mod laws;
 mod least;
 mod suit_turn;
-#[cfg(test)]
-mod tests;
 mod turned;
 mod walk;
 

@@ -22,5 +22,3 @@ pub use numerals::number;
 pub use out::Out;
 pub use refused::Refused;
 
-#[cfg(test)]
-mod tests;

@@ -9,8 +9,6 @@ mod places;
 mod rank_ways;
 mod ranker;
 mod steps;
-#[cfg(test)]
-mod tests;
 
 pub use kept::{KeptPayments, paid};
 pub use kept_lines::KeptLines;

@@ -2,7 +2,7 @@
 
 use crate::tests::tables::{answered, joined};
 use std::test::*;
-use vp_pay::samples::{JACKS, ONE_JOKER, ZERO};
+use vp_pay::samples::{BONUS, JACKS, ONE_JOKER, ZERO};
 use vp_run::Status;
 
 /// Nothing pays, in a deck with a joker.
@@ -14,10 +14,13 @@ line royal royal either 0
 end
 ";
 
-// A joker pays, and no play for it holds one: it is lost where it was dealt. In the other order nothing is paid.
+// A joker pays, and no play for it holds one: it is lost where it was dealt. In the other order nothing is paid. The figures
+// of the third case are those of a plain program that takes every deal's image of least index under the 24 exchanges of
+// suits: with 2c Tc Td Jc Ac four to a flush are held, where three to a royal flush are worth more. A table's own play costs
+// nothing.
 #[test]
 fn plays_of_two_tables(rt: HostRuntime) -> Result<(), Fail> {
-    let cases: [(&[u8], &[u8], &[u8]); 2] = [
+    let cases: [(&[u8], &[u8], &[u8]); 4] = [
         (
             NOTHING,
             ONE_JOKER,
@@ -34,6 +37,25 @@ worst 2c 2d 2h 2s Jo 0 16 8561520
             b"optimum 0 / 24568865521200
 cross 0 / 24568865521200
 loss 0 / 24568865521200
+differ 0 0
+",
+        ),
+        (
+            JACKS,
+            BONUS,
+            b"optimum 19766982030036 / 19933230517200
+cross 19765442272620 / 19933230517200
+loss 1539757416 / 19933230517200
+differ 721 13728
+worst 2c Tc Td Jc Ac 27 26 1213245
+",
+        ),
+        (
+            JACKS,
+            JACKS,
+            b"optimum 19842315923796 / 19933230517200
+cross 19842315923796 / 19933230517200
+loss 0 / 19933230517200
 differ 0 0
 ",
         ),

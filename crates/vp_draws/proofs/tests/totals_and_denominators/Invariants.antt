@@ -1,4 +1,0 @@
-use Rattle.vp_draws.proofs.tests.totals_and_denominators.Given as goal
-
-abbrev pub ghosts-sum_of : goal.ghosts-sum_of
-ghosts-sum_of g a = record { name = a.blank.name; parts = a.blank.parts }

@@ -1,4 +1,0 @@
-use Rattle.vp_draws.proofs.tests.worked_deals.Given as goal
-
-abbrev pub ghosts-worth : goal.ghosts-worth
-ghosts-worth g a = record { name = a.blank.name; parts = a.blank.parts }

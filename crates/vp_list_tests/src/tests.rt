@@ -1,0 +1,5 @@
+//! One module for each crate that is asked.
+
+mod audit;
+mod compile;
+mod rule;

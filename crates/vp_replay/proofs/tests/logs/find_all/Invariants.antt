@@ -1,4 +1,0 @@
-use Rattle.vp_replay.proofs.tests.logs.find_all.Given as goal
-
-abbrev pub ghosts-found : goal.ghosts-found
-ghosts-found g a = record { name = a.blank.name; parts = a.blank.parts }

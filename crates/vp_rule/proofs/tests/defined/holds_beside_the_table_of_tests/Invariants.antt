@@ -1,5 +1,0 @@
--- The ledger of the counter that nobody reads is the blank's.
-use Rattle.vp_rule.proofs.tests.defined.holds_beside_the_table_of_tests.Given as goal
-
-abbrev pub ghosts-differing : goal.ghosts-differing
-ghosts-differing g a = record { name = a.blank.name; parts = a.blank.parts }
