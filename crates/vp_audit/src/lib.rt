@@ -18,4 +18,3 @@ pub use laws::{
 };
 pub use walk::audit;
 pub use writing::put_list;
-

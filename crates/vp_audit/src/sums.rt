@@ -1,6 +1,6 @@
 //! What is summed up over the classes of deals.
 
-ghost use Rattle.std.specs.Prelude.{◌≡◌, ◌*◌, ◌<◌, ◌≤◌, ◌^◌, ◌==◌, ◌-◌, length, not, replicate, slice_index_or, slice_set};
+ghost use Rattle.std.specs.Prelude.{◌≡◌, ◌*◌, ◌<◌, ◌≤◌, ◌^◌, ◌==◌, ◌-◌, not, replicate};
 ghost use Rattle.vp_audit.specs.Audits.{only};
 ghost use Rattle.vp_audit.specs.Sums.{HasRoom, IsRoomy, added, more, no_sums, no_tally, tallied};
 

@@ -1,6 +1,6 @@
 //! The audit of a list: a walk over all classes of deals.
 
-ghost use Rattle.std.specs.Prelude.{◌≡◌, ◌+◌, ◌++◌, ◌≤◌, [], IfNone, is_some, length, option_to_list};
+ghost use Rattle.std.specs.Prelude.{◌≡◌, ◌+◌, ◌≤◌, [], IfNone, is_some, length};
 ghost use Rattle.vp_sets.specs.Index.{set_index};
 ghost use Rattle.vp_suit.specs.Classes.{representatives};
 ghost use Rattle.vp_pay.specs.Table.{IsTable};

@@ -10,4 +10,3 @@ mod lines;
 pub use asked::Asked;
 pub use certificate::certify;
 pub use holds::Holds;
-

@@ -1,6 +1,6 @@
 //! The lines of a certificate behind its pay table, each put as it comes.
 
-ghost use Rattle.std.specs.Prelude.{◌≡◌, [], ◌∷◌, ◌++◌, codes};
+ghost use Rattle.std.specs.Prelude.{[], ◌∷◌, codes};
 ghost use Rattle.std.specs.Fmt.{decimal};
 ghost use Rattle.vp_text.specs.Written.{line_of, written};
 ghost use Rattle.vp_check.specs.Spelling.{class_words, return_words};

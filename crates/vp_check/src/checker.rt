@@ -1,6 +1,6 @@
 //! The check of a certificate that uses none of what wrote it.
 
-ghost use Rattle.std.specs.Prelude.{◌≡◌, ◌≤◌, ◌<◌, ◌^◌, ◌↔◌, ℕ, List, length, Ok, Err};
+ghost use Rattle.std.specs.Prelude.{◌≡◌, ◌≤◌, ◌<◌, ◌↔◌, ℕ, List, length, Ok, Err};
 ghost use Rattle.vp_check.specs.Answers.{IsBad, IsChecked};
 ghost use Rattle.vp_check.specs.Certificates.{IsCertificate};
 ghost use Rattle.vp_check.specs.Checking.{check_result};

@@ -1,7 +1,6 @@
 //! The class lines of a text, read one by one.
 
 ghost use Rattle.std.specs.Prelude.{◌≡◌, [], ◌∷◌, ◌++◌, IfNone, option_to_list};
-ghost use Rattle.vp_text.specs.Lines.{Feed};
 ghost use Rattle.vp_check.specs.Rows.{numbered_classes};
 
 use crate::class_words::class_of;

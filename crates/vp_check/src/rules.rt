@@ -6,7 +6,7 @@ ghost use Rattle.vp_pay.specs.Bets.{IsBet};
 ghost use Rattle.vp_draws.specs.Draws.{best, value};
 ghost use Rattle.vp_sets.specs.Index.{set_index};
 ghost use Rattle.vp_check.specs.Listing.{counted_breach};
-ghost use Rattle.vp_check.specs.Rules.{broken_if, first_of, image_breach, rising_breach, weight_breach, value_breach, mask_breach, listed_breach, walked_breach, cover_breach, sum_breach, denominator_breach};
+ghost use Rattle.vp_check.specs.Rules.{broken_if, image_breach, rising_breach, weight_breach, value_breach, mask_breach, listed_breach, walked_breach, cover_breach, sum_breach, denominator_breach};
 
 use crate::reading::Counted;
 use crate::{CertRule, ClassLine};

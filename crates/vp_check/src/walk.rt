@@ -1,6 +1,6 @@
 //! The walk over the class lines whose draws are asked for.
 
-ghost use Rattle.std.specs.Prelude.{◌≡◌, ◌+◌, ◌≤◌, ◌<◌, ◌^◌, None, true, length, if◌then◌else◌};
+ghost use Rattle.std.specs.Prelude.{◌≡◌, ◌+◌, ◌<◌, ◌^◌, None, true, length, if◌then◌else◌};
 ghost use Rattle.std.specs.List.{All};
 ghost use Rattle.vp_card.specs.Cards.{in_deck};
 ghost use Rattle.vp_pay.specs.Bets.{IsBet};

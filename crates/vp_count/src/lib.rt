@@ -15,4 +15,3 @@ pub use sum_table::SumTable;
 pub use sums::Sums;
 pub use table::table_words;
 pub use totals::{all_totals, held_total};
-

@@ -1,6 +1,6 @@
 //! The table of the sums of all sets of at most five cards, made from the numbers of the sets of five.
 
-ghost use Rattle.std.specs.Prelude.{◌≡◌, ◌+◌, ◌-◌, ◌^◌, ◌<◌, ◌≤◌, ℕ, List, length, sum};
+ghost use Rattle.std.specs.Prelude.{◌≡◌, ◌+◌, ◌-◌, ◌^◌, ◌<◌, ◌≤◌, ℕ, length, sum};
 ghost use Rattle.std.specs.List.{All};
 ghost use Rattle.vp_sets.specs.Sets.{choose};
 ghost use Rattle.vp_sets.specs.Index.{HasIndex, IsSet, set_index};

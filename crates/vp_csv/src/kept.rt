@@ -1,6 +1,6 @@
 //! Sessions, while their records are read.
 
-ghost use Rattle.std.specs.Prelude.{◌≡◌, ◌<◌, ◌++◌, ◌∷◌, [], length, map, bytes_eq, codes, OnOk, IfOk};
+ghost use Rattle.std.specs.Prelude.{◌≡◌, ◌<◌, ◌∷◌, [], length, map, bytes_eq, OnOk, IfOk};
 ghost use Rattle.std.specs.List.{position};
 ghost use Rattle.vp_text.specs.Written.{line_of};
 ghost use Rattle.vp_loggram.specs.Spelling.{event_words};

@@ -13,4 +13,3 @@ mod stop;
 pub use laws::{first_breaks_are_refused, records_are_spelled, sessions_are_apart};
 pub use sessions::Sessions;
 pub use stop::CsvStop;
-

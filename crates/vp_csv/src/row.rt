@@ -1,13 +1,12 @@
 //! A record of seven fields, and what it says.
 
-ghost use Rattle.std.specs.Prelude.{◌≡◌, ◌≤◌, None, Some, option_map, IfSome};
+ghost use Rattle.std.specs.Prelude.{◌≡◌, ◌≤◌, None, Some, IfSome};
 ghost use Rattle.csv.specs.Records.{fields_of, field_at};
 ghost use Rattle.vp_csv.specs.Fields.{row_of, five_of};
 ghost use Rattle.vp_csv.specs.Left.{given};
 ghost use Rattle.vp_csv.specs.Rules.{is_head, is_header, start_in, game_in, tells_no_game};
 
 use crate::cards::cards_of;
-use arrayvec::ArrayVec;
 use csv::ByteRecord;
 use std::marker::Model;
 use vp_card::{Card, in_deck};

@@ -3,7 +3,7 @@
 ghost use Rattle.std.specs.Prelude.{ℕ, ◌≡◌, ◌+◌, ◌*◌, ◌<◌, ◌≤◌, true, length, sum_by};
 ghost use Rattle.vp_card.specs.Cards.{IsHand, in_deck};
 ghost use Rattle.vp_pay.specs.Table.{IsTable};
-ghost use Rattle.vp_sets.specs.Draws.{common, discarded, draws};
+ghost use Rattle.vp_sets.specs.Draws.{discarded, draws};
 ghost use Rattle.vp_draws.specs.Draws.{IsMean, best, least_best, masks, ties, total, value};
 
 use crate::walk::total_of;

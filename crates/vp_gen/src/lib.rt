@@ -9,4 +9,3 @@ mod numbers;
 
 pub use laws::made_logs_are_accepted;
 pub use logs::make_log;
-

@@ -1,6 +1,6 @@
 //! How often all lines of a table come.
 
-ghost use Rattle.std.specs.Prelude.{◌≡◌, ◌<◌, ◌≤◌, ℕ, Some, None, IfSome, length, slice_index};
+ghost use Rattle.std.specs.Prelude.{◌≡◌, ◌<◌, ℕ, Some, None, IfSome, length, slice_index};
 ghost use Rattle.vp_pay.specs.Bets.{IsBet};
 ghost use Rattle.vp_count.specs.Table.{first_word};
 ghost use Rattle.vp_draws.specs.Draws.{sum_of_best};

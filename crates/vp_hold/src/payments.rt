@@ -1,6 +1,6 @@
 //! The payments of all sets of five cards, written by rising index, and their sums.
 
-ghost use Rattle.std.specs.Prelude.{◌≡◌, ℕ, ◌+◌, ◌≤◌, List, length, map, slice_index};
+ghost use Rattle.std.specs.Prelude.{◌≡◌, ◌+◌, length, map, slice_index};
 ghost use Rattle.vp_pay.specs.Bets.{IsBet};
 ghost use Rattle.vp_sets.specs.Index.{IsSet};
 ghost use Rattle.vp_sets.specs.Sets.{choose};

@@ -1,6 +1,6 @@
 //! The calls of an object in memory: how much one moves, and which of them fail.
 
-ghost use Rattle.std.specs.Prelude.{◌≡◌, ℕ};
+ghost use Rattle.std.specs.Prelude.{◌≡◌};
 
 use std::marker::Model;
 

@@ -27,4 +27,3 @@ pub use real_source::RealSource;
 pub use sink::Sink;
 pub use source::Source;
 pub use whole::{LIMIT, put, read_all};
-

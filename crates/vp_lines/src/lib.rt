@@ -6,4 +6,3 @@ mod words;
 
 pub use lines::{add_cards, put_lines, put_words};
 pub use words::Word;
-

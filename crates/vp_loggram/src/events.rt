@@ -1,7 +1,6 @@
 //! The games of a log, read one by one.
 
 ghost use Rattle.std.specs.Prelude.{◌≡◌, [], ◌∷◌, ◌++◌, IfNone, option_to_list};
-ghost use Rattle.vp_text.specs.Lines.{Feed};
 ghost use Rattle.vp_loggram.specs.Sections.{events_in_front};
 
 use crate::Event;

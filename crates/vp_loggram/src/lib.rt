@@ -12,4 +12,3 @@ pub use event::Event;
 pub use events::Events;
 pub use laws::{log_spellings_differ, written_logs_are_read};
 pub use log::Log;
-

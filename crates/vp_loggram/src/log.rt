@@ -1,13 +1,10 @@
 //! A log, which borrows its text.
 
-ghost use Rattle.std.specs.Prelude.{◌≡◌, ◌≤◌, length, codes, is_some, Ok, IfOk, IfErr};
+ghost use Rattle.std.specs.Prelude.{◌≡◌, ◌≤◌, length, is_some, Ok, IfOk, IfErr};
 ghost use Rattle.vp_card.specs.Cards.{IsDeck};
 ghost use Rattle.vp_text.specs.Lines.{Feed};
-ghost use Rattle.vp_text.specs.Numbers.{number_within};
-ghost use Rattle.vp_text.specs.Pieces.{keyed};
 ghost use Rattle.vp_text.specs.Reading.{Gives};
 ghost use Rattle.vp_text.specs.Sections.{Starts, Refuses, Leaves, IsAt, StandsBehind};
-ghost use Rattle.vp_text.specs.Streams.{skipped};
 ghost use Rattle.vp_loggram.specs.Logs.{IsLog, LogValue};
 ghost use Rattle.vp_loggram.specs.Reading.{event_of};
 ghost use Rattle.vp_loggram.specs.Sections.{events_in_front, games_skipped, log_at, log_read, start_line};

@@ -1,9 +1,8 @@
 //! The words of a game.
 
-ghost use Rattle.std.specs.Prelude.{◌≡◌, ◌&&◌, [], Some, None, if◌then◌else◌};
+ghost use Rattle.std.specs.Prelude.{◌≡◌, ◌&&◌, [], Some, None};
 ghost use Rattle.vp_card.specs.Cards.{in_deck};
-ghost use Rattle.vp_card.specs.Reading.{card_of};
-ghost use Rattle.vp_text.specs.Pieces.{Takes, up_to};
+ghost use Rattle.vp_text.specs.Pieces.{Takes};
 ghost use Rattle.vp_loggram.specs.Logs.{is_of_deck};
 ghost use Rattle.vp_loggram.specs.Reading.{cards_up_to, event_of};
 

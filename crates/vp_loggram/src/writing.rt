@@ -1,7 +1,6 @@
 //! Games, written line by line.
 
 ghost use Rattle.std.specs.Prelude.{◌≡◌, ◌+◌, ◌<◌, ◌≤◌, [], ◌∷◌, ◌++◌, length, OnOk, OnErr};
-ghost use Rattle.std.specs.Fmt.{decimal};
 ghost use Rattle.vp_text.specs.Written.{line_of, with_words};
 ghost use Rattle.vp_loggram.specs.Spelling.{event_words, key_cards, key_number};
 

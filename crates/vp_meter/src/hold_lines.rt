@@ -1,6 +1,6 @@
 //! The lines of all holds of a hand, and which of them is highest.
 
-ghost use Rattle.std.specs.Prelude.{◌≡◌, ℕ, ◌+◌, ◌*◌, ◌<◌, ◌≤◌, slice_index, length};
+ghost use Rattle.std.specs.Prelude.{◌≡◌, ℕ, ◌+◌, ◌*◌, ◌<◌, ◌≤◌};
 ghost use Rattle.vp_meter.specs.LinesOfHolds.{AreLines, IsTop, StaysTo, height, line_at, own_height};
 ghost use Rattle.vp_meter.specs.Segments.{segment_at, segments};
 

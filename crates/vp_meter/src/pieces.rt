@@ -1,6 +1,6 @@
 //! The lines of the pieces, read off the words of all payments.
 
-ghost use Rattle.std.specs.Prelude.{◌≡◌, ◌+◌, ◌-◌, ◌*◌, ◌<◌, ◌≤◌, ◌^◌, length, map, slice_index};
+ghost use Rattle.std.specs.Prelude.{◌≡◌, ◌+◌, ◌-◌, ◌*◌, ◌<◌, ◌≤◌, ◌^◌, length, map};
 ghost use Rattle.vp_text.specs.Written.{line_of, written};
 ghost use Rattle.vp_io.specs.Puts.{Puts};
 ghost use Rattle.vp_meter.specs.Pieces.{piece_words};

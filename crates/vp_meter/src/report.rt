@@ -1,7 +1,6 @@
 //! The whole meter, put line by line.
 
-ghost use Rattle.std.specs.Prelude.{◌≡◌, ℕ, ◌+◌, ◌-◌, ◌*◌, ◌^◌, ◌≤◌, ◌<◌, ◌++◌, ◌∷◌, [], length, map, flat_map, codes, slice_index, IfOk, OnOk, true};
-ghost use Rattle.vp_card.specs.Cards.{in_deck};
+ghost use Rattle.std.specs.Prelude.{◌≡◌, ℕ, ◌+◌, ◌-◌, ◌*◌, ◌^◌, ◌≤◌, ◌<◌, ◌++◌, ◌∷◌, [], length, map, flat_map, slice_index, IfOk, OnOk};
 ghost use Rattle.vp_text.specs.Written.{line_of, written};
 ghost use Rattle.vp_io.specs.Puts.{Puts};
 ghost use Rattle.vp_suit.specs.Classes.{representatives};

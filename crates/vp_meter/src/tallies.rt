@@ -1,7 +1,7 @@
 //! The words of each payment: how many classes and deals have a segment that begins there, what is lost of the bases, and
 //! what is gained in slope.
 
-ghost use Rattle.std.specs.Prelude.{◌≡◌, ℕ, ◌+◌, ◌-◌, ◌*◌, ◌<◌, ◌≤◌, ◌^◌, List, [], ◌∷◌, ◌++◌, length, slice_index, true};
+ghost use Rattle.std.specs.Prelude.{◌≡◌, ◌+◌, ◌-◌, ◌*◌, ◌<◌, ◌≤◌, ◌^◌, [], ◌∷◌, length, slice_index, true};
 ghost use Rattle.std.specs.List.{All};
 ghost use Rattle.vp_meter.specs.Pieces.{climbing};
 ghost use Rattle.vp_meter.specs.Tallies.{change, Added, HasRoom, turns_in};

@@ -18,4 +18,3 @@ pub use pattern::{Pattern, Qualifier};
 pub use reading::table_spellings_differ;
 pub use table::{PayLine, PayTable};
 pub use writing::written_tables_are_read;
-

@@ -4,4 +4,3 @@
 mod shape;
 
 pub use shape::{Shape, is_wild, is_wild_card};
-

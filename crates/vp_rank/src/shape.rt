@@ -1,6 +1,6 @@
 //! The shape of a set of cards.
 
-ghost use Rattle.std.specs.Prelude.{◌≡◌, ℕ, ◌+◌, ◌/◌, ◌<◌, ◌≤◌, Contains, All, length, nat_lt, ◌==◌, slice_index, slice_set, if◌then◌else◌};
+ghost use Rattle.std.specs.Prelude.{◌≡◌, ℕ, ◌+◌, ◌/◌, ◌<◌, ◌≤◌, Contains, All, length, ◌==◌, slice_index, slice_set, if◌then◌else◌};
 ghost use Rattle.std.specs.Int.{bit_at};
 ghost use Rattle.vp_card.specs.Cards.{rank, suit};
 ghost use Rattle.vp_rank.specs.Counts.{fits_window, in_window};

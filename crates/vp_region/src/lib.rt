@@ -1,7 +1,7 @@
 //! One block of words, opened once and carved into disjoint slices of zeros.
 #![tactic(auto)]
 
-ghost use Rattle.std.specs.Prelude.{◌≡◌, ◌+◌, ◌-◌, ◌<◌, ◌≤◌, ℕ, length, replicate, IfOk, OnSome, IfSome, IfNone, IsNone, ◌↔◌};
+ghost use Rattle.std.specs.Prelude.{◌≡◌, ◌+◌, ◌-◌, ◌<◌, ℕ, length, replicate, IfOk, IfSome, IfNone, IsNone, ◌↔◌};
 ghost use Rattle.std.specs.Borrow.{Lends, Array, sem, u64 as word};
 ghost use Rattle.vp_region.specs.contracts.Region.{the_row};
 
@@ -96,4 +96,3 @@ impl<'a> Carver<'a> {
         Some(part)
     }
 }
-

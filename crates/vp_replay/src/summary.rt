@@ -1,6 +1,5 @@
 //! The numbers of a log, and their lines.
 
-ghost use Rattle.std.specs.Prelude.{◌≡◌};
 ghost use Rattle.vp_card.specs.Cards.{IsDeck};
 ghost use Rattle.vp_io.specs.Puts.{Puts};
 ghost use Rattle.vp_text.specs.Written.{written};

@@ -1,6 +1,6 @@
 //! What is kept of a hold, and which tests hold of it.
 
-ghost use Rattle.std.specs.Prelude.{◌≡◌, ◌==◌, ◌&&◌, false, nat_lt, nat_le, not, count_by};
+ghost use Rattle.std.specs.Prelude.{◌≡◌, ◌==◌, ◌&&◌, nat_lt, nat_le, not, count_by};
 ghost use Rattle.std.specs.Int.{bit_at};
 ghost use Rattle.std.specs.List.{list_all, range_with_len};
 ghost use Rattle.vp_card.specs.Cards.{IsHand, has, rank, suit};

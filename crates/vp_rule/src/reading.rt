@@ -1,6 +1,6 @@
 //! Lists and pools, read line by line.
 
-ghost use Rattle.std.specs.Prelude.{◌≡◌, ◌<◌, codes, Some, None, Ok, IfOk, IfErr, length};
+ghost use Rattle.std.specs.Prelude.{◌≡◌, ◌<◌, Some, None, Ok, IfOk, IfErr};
 ghost use Rattle.vp_sets.specs.Index.{set_index};
 ghost use Rattle.vp_text.specs.Lines.{Feed};
 ghost use Rattle.vp_text.specs.Reading.{Gives};

@@ -1,11 +1,10 @@
 //! `hits`: how often each pay line comes under the printed holds.
 
-ghost use Rattle.std.specs.Prelude.{◌≡◌, ◌+◌, ◌<◌, ◌≤◌, ℕ, Some, None, length, slice_index};
+ghost use Rattle.std.specs.Prelude.{◌≡◌, ◌<◌, ◌≤◌, ℕ, Some, None, length, slice_index};
 ghost use Rattle.vp_draws.specs.Draws.{sum_of_best};
 ghost use Rattle.vp_hits.specs.Hits.{often};
 ghost use Rattle.vp_io.specs.Puts.{Puts};
 ghost use Rattle.vp_pay.specs.Bets.{IsBet};
-ghost use Rattle.vp_pay.specs.Table.{IsTable};
 ghost use Rattle.vp_text.specs.Written.{line_of, written};
 ghost use Rattle.vp_run.specs.Hits.{end_lines, hit_lines, hit_words, hits_lines};
 

@@ -1,9 +1,7 @@
 //! `meter`: which holds are best from which payment of a line on.
 
 ghost use Rattle.std.specs.Prelude.{◌≡◌, ◌≤◌, IfOk, length, None, if◌then◌else◌};
-ghost use Rattle.std.specs.Option.{unwrap_or};
 ghost use Rattle.vp_meter.specs.Metered.{IsMetering};
-ghost use Rattle.vp_pay.specs.Table.{IsTable};
 ghost use Rattle.vp_answer.specs.Reads.{Reads};
 ghost use Rattle.vp_run.specs.Deal.{has_bet};
 ghost use Rattle.vp_run.specs.Meter.{line_place, meter_input, metering_of};

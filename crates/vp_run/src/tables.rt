@@ -1,6 +1,6 @@
 //! The built-in pay tables, one after another.
 
-ghost use Rattle.std.specs.Prelude.{◌≡◌, ◌++◌};
+ghost use Rattle.std.specs.Prelude.{◌++◌};
 ghost use Rattle.vp_run.specs.Answer.{built_in_text};
 ghost use Rattle.vp_io.specs.Puts.{Puts};
 

@@ -86,4 +86,3 @@ pub fn scale(n: u8, k: u8) -> u64
 {
     common(n) / choose(n - 5, k)
 }
-

@@ -1,6 +1,6 @@
 //! The classes of all deals from a deck, by their representatives.
 
-ghost use Rattle.std.specs.Prelude.{◌≡◌, ◌≤◌, ◌++◌, [], length, IfSome, IfNone, option_map, option_to_list};
+ghost use Rattle.std.specs.Prelude.{◌≡◌, ◌++◌, [], length, IfSome, IfNone, option_map, option_to_list};
 ghost use Rattle.vp_card.specs.Cards.{IsDeck};
 ghost use Rattle.vp_suit.specs.Classes.{representatives, weight};
 

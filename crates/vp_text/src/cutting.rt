@@ -1,6 +1,6 @@
 //! Where a text is cut into lines, and a line into words.
 
-ghost use Rattle.std.specs.Prelude.{◌≡◌, ◌<◌, ◌==◌, Bool, false, not, List, ◌∷◌, length, slice_index, position};
+ghost use Rattle.std.specs.Prelude.{◌≡◌, ◌<◌, ◌==◌, false, not, ◌∷◌, length, slice_index, position};
 ghost use Rattle.std.specs.List.{before_first};
 ghost use Rattle.std.specs.Str.Lines.{strip_carriage_return};
 ghost use Rattle.vp_text.specs.Lines.{is_blank, after_feed, lines_in, words_in, said};

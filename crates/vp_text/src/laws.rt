@@ -1,12 +1,12 @@
 //! The laws of sections and of what is written. Each is the contract of a function that does nothing.
 //! In a law, which values are valid is told by a test.
 
-ghost use Rattle.std.specs.Prelude.{◌≡◌, ◌≢◌, ◌<◌, ◌≤◌, ◌^◌, ℕ, Bool, true, IsTrue, map, flat_map, List, [], ◌∷◌, ◌++◌, length, decimal, Option, Some, None, Result, Ok, Err, ◌⊎◌, ◌↔◌};
+ghost use Rattle.std.specs.Prelude.{◌≡◌, ◌≢◌, ◌<◌, ◌≤◌, ◌^◌, ℕ, Bool, true, IsTrue, map, flat_map, List, [], ◌∷◌, ◌++◌, length, decimal, Option, Some, None, Ok, Err, ◌⊎◌, ◌↔◌};
 ghost use Rattle.std.specs.List.{AllByRecursion};
 ghost use Rattle.vp_text.specs.Lines.{Word, Feed, feed_of};
 ghost use Rattle.vp_text.specs.Sections.{Starts, Text, text_of, both_text, AreBoth, IsWhole, Passes, PassesBehind, RefusedLine, RefusedInput, AcceptedInput};
 ghost use Rattle.vp_text.specs.ExactReaders.{Reader, Exact, Seen, Keeps, Closes, closed_text, AreClosed, on_item, Finish, rows_text, AreRows, ExactText};
-ghost use Rattle.vp_text.specs.Reading.{one_line, nothing, both, rows, closed, mapped, fitting, whole};
+ghost use Rattle.vp_text.specs.Reading.{one_line, both, rows, closed, mapped, fitting, whole};
 ghost use Rattle.vp_text.specs.Numbers.{number_of, number_within};
 ghost use Rattle.vp_text.specs.Pieces.{Piece, ExactPiece, AreUpTo, ahead, by_first, key_word, one_word, up_to, up_to_end};
 ghost use Rattle.vp_text.specs.Streams.{always, any_behind, folded, following, front_items, kind_in_front, skipped_items, stated, MayFollow, ReadAgain, StandsFor};

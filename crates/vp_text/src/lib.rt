@@ -21,4 +21,3 @@ pub use next_words::{key_word, keyed_number, next_number, next_number_within};
 pub use numerals::number;
 pub use out::Out;
 pub use refused::Refused;
-

@@ -1,9 +1,9 @@
 //! The lines of a text that have words, and the words of a line.
 
-ghost use Rattle.std.specs.Prelude.{◌≡◌, ◌+◌, ◌<◌, ◌≤◌, true, false, List, [], ◌∷◌, length, MatchOption, IfSome, IfOk, IfErr};
-ghost use Rattle.vp_text.specs.Lines.{lines_in, words_in, said, feed_of, at_end, rest_of};
+ghost use Rattle.std.specs.Prelude.{◌≡◌, ◌+◌, ◌<◌, ◌≤◌, true, false, [], ◌∷◌, length, MatchOption, IfOk, IfErr};
+ghost use Rattle.vp_text.specs.Lines.{lines_in, words_in, feed_of, at_end, rest_of};
 ghost use Rattle.vp_text.specs.Pieces.{none_left};
-ghost use Rattle.vp_text.specs.Reading.{behind, next_is, only_is};
+ghost use Rattle.vp_text.specs.Reading.{next_is, only_is};
 
 use crate::Refused;
 use crate::cutting::{cut_line, cut_word, from_word, what_is_said};

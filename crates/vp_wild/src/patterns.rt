@@ -1,6 +1,6 @@
 //! Whether a hand of five cards hits a pay line, told by its shape.
 
-ghost use Rattle.std.specs.Prelude.{◌≡◌, ℕ, ◌+◌, ◌-◌, ◌<◌, ◌≤◌, Bool, nat_lt, nat_le, not, ◌==◌, ◌&&◌};
+ghost use Rattle.std.specs.Prelude.{◌≡◌, ◌+◌, ◌-◌, ◌<◌, ◌≤◌, nat_lt, nat_le, not, ◌==◌, ◌&&◌};
 ghost use Rattle.vp_card.specs.Cards.{has};
 ghost use Rattle.vp_rank.specs.Bounded.{some_below};
 ghost use Rattle.vp_rank.specs.Counts.{fits_window};

@@ -1,6 +1,6 @@
 //! Sums of a small deck, and of a whole one.
 
-ghost use Rattle.std.specs.Prelude.{◌≡◌, ◌≤◌, ℕ, length};
+ghost use Rattle.std.specs.Prelude.{◌≡◌, ◌≤◌, length};
 ghost use Rattle.std.specs.List.{All};
 ghost use Rattle.vp_count.specs.Table.{first_word};
 

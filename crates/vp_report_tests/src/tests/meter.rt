@@ -1,6 +1,6 @@
 //! The segments of a dozen deals, beside all 32 holds tried at every payment.
 
-ghost use Rattle.std.specs.Prelude.{◌≡◌, ◌<◌, ◌≤◌, true, length, IfSome};
+ghost use Rattle.std.specs.Prelude.{◌≡◌, ◌<◌, true, length, IfSome};
 ghost use Rattle.vp_card.specs.Cards.{in_deck};
 ghost use Rattle.vp_count.specs.Table.{first_word};
 ghost use Rattle.vp_pay.specs.Bets.{IsBet};

@@ -69,13 +69,7 @@ fn holds_are_walked(rt: HostRuntime) -> Result<(), Fail> {
     ] {
         let table = table_of(text, coin).ok_or("no such table")?;
         let mut words = vec![in rt.alloc(); 9u64; table_words(table.deck)]?;
-        let agreeing = deals_agree::<Brand>(
-            &table,
-            coin,
-            deals,
-            &mut words,
-            Blank::new(1),
-        );
+        let agreeing = deals_agree::<Brand>(&table, coin, deals, &mut words, Blank::new(1));
         assert_eq!(rt; agreeing, Some(12));
     }
     Ok(())

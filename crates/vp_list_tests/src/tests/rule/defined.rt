@@ -1,7 +1,7 @@
 //! Every test of the language, asked of every hold of a dozen deals, beside what the table of tests in docs/FORMATS.md says
 //! of its cards.
 
-ghost use Rattle.std.specs.Prelude.{◌≡◌, ◌<◌, ◌≤◌};
+ghost use Rattle.std.specs.Prelude.{◌≡◌, ◌<◌};
 
 use super::matching::hand_of;
 use arrayvec::ArrayVec;

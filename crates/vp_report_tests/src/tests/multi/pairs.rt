@@ -1,6 +1,6 @@
 //! Moments of two hands, summed over all lists of two draws.
 
-ghost use Rattle.std.specs.Prelude.{◌≡◌, ◌<◌, ◌≤◌, true, length, IfSome};
+ghost use Rattle.std.specs.Prelude.{◌≡◌, ◌<◌, true, length, IfSome};
 ghost use Rattle.vp_card.specs.Cards.{in_deck};
 ghost use Rattle.vp_count.specs.Table.{first_word};
 ghost use Rattle.vp_pay.specs.Bets.{IsBet};
