@@ -17,8 +17,9 @@ pub total_le : (table : PayTable) (coin : ℕ) (hand : List ℕ) (mask : ℕ) �
 unfolding total
 total_le table coin hand mask t d = sum_over_draws_le (pay table coin) 500000 table.deck hand mask d (λ h. pay_le table coin h t)
 
-scaled : (x m c s l : ℕ) → x ≤ m * c → s * c ≡ l → x * s ≤ m * l
-scaled x m c s l h e =
+-- a bound on a sum bounds what it is scaled to
+pub scaled_le : (x m c s l : ℕ) → x ≤ m * c → s * c ≡ l → x * s ≤ m * l
+scaled_le x m c s l h e =
     let p : x * s ≤ (m * c) * s = mul-le-mul_right s h in
     let q : (m * c) * s ≡ m * l = mul_assoc m c s ∙ ap (λ y. m * y) (mul_comm c s ∙ e) in
     rw q at p
@@ -28,7 +29,7 @@ pub value_le : (table : PayTable) (coin : ℕ) (hand : List ℕ) (mask : ℕ) �
 value_le table coin hand mask t d =
     let k : ℕ = length (discarded mask hand) in
     let few : k ≤ 5 = omega (arith, length-held mask hand, d.five) in
-    scaled _ 500000 (choose (table.deck - 5) k) (scale table.deck k) (common table.deck) (total_le table coin hand mask t d) (scale_exact table.deck k t.known_deck few)
+    scaled_le _ 500000 (choose (table.deck - 5) k) (scale table.deck k) (common table.deck) (total_le table coin hand mask t d) (scale_exact table.deck k t.known_deck few)
 
 pub value_fits : (table : PayTable) (coin : ℕ) (hand : List ℕ) (mask : ℕ) → IsTable table → Dealt table.deck hand
     → total table coin hand mask * scale table.deck (length (discarded mask hand)) < 2 ^ 64
@@ -79,7 +80,7 @@ unfolding value2
 value2_small table coin hand mask t d =
     let k : ℕ = length (discarded mask hand) in
     let few : k ≤ 5 = omega (arith, length-held mask hand, d.five) in
-    scaled _ 250000000000 (choose (table.deck - 5) k) (scale table.deck k) (common table.deck) (total2_le table coin hand mask t d) (scale_exact table.deck k t.known_deck few)
+    scaled_le _ 250000000000 (choose (table.deck - 5) k) (scale table.deck k) (common table.deck) (total2_le table coin hand mask t d) (scale_exact table.deck k t.known_deck few)
 
 pub value2_fits : (table : PayTable) (coin : ℕ) (hand : List ℕ) (mask : ℕ) → IsTable table → Dealt table.deck hand → value2 table coin hand mask < 2 ^ 64
 value2_fits table coin hand mask t d = omega (arith, value2_small table coin hand mask t d, common_small table.deck t.known_deck)

@@ -1,7 +1,6 @@
 -- The number of each hand's line, and what the sums of such numbers tell of a hold.
-use Rattle.std.proofs.Common.{◌≡◌, ◌⊎◌, ◌≢◌, inl, inr, ℕ, zero, suc, ◌+◌, ◌-◌, ◌*◌, ◌/◌, ◌%◌, ◌^◌, ◌<◌, ◌≤◌, Bool, true, false, List, [], ◌∷◌, Option, Some, None, length, get_or, set, replicate, refl, sym, ap, subst, ◌∙◌, arith, lit≤, length-set, get_or-set_same}
+use Rattle.std.proofs.Common.{◌≡◌, ◌⊎◌, ◌≢◌, inl, inr, ℕ, zero, suc, ◌+◌, ◌-◌, ◌*◌, ◌/◌, ◌%◌, ◌<◌, ◌≤◌, Bool, true, false, List, [], ◌∷◌, Option, Some, None, length, get_or, set, replicate, refl, sym, ap, subst, ◌∙◌, arith, length-set, get_or-set_same}
 use Rattle.std.proofs.Math.Path.{fun_ext}
-use Rattle.std.proofs.Math.Nat.{mul-le-mul_right, mul_assoc, mul_comm}
 use Rattle.std.specs.Prelude.{sum_by, if◌then◌else◌, ◌==◌, slice_index, IfSome}
 use Rattle.std.specs.List.{All}
 use Rattle.std.proofs.lemmas.Bool.Decides.{nat_tests}
@@ -18,16 +17,15 @@ use Rattle.vp_pay.specs.declared.table.PayTable.{PayTable}
 use Rattle.vp_pay.specs.Table.{IsTable}
 use Rattle.vp_sets.specs.Sets.{choose}
 use Rattle.vp_sets.specs.Draws.{common, discarded, draws, scale, sum_over_draws}
-use Rattle.vp_sets.proofs.Binomials.{choose_le}
-use Rattle.vp_sets.proofs.Colex.{hand_is_set}
 use Rattle.vp_sets.proofs.Denominators.{common_small, scale_exact}
 use Rattle.vp_sets.proofs.Holds.{Dealt, dealt_from, length-held, sum_over_draws_le}
-use Rattle.vp_sets.proofs.Pascal.{ways_are}
+use Rattle.vp_draws.proofs.Values.{scaled_le}
 use Rattle.vp_wild.specs.Payment.{first_line, line}
 use Rattle.vp_wild.specs.Payment.{hits as line_matches}
-use Rattle.vp_count.specs.Sums.{hand_numbers, spread}
+use Rattle.vp_count.specs.Sums.{hand_numbers}
 use Rattle.vp_count.specs.Table.{AreSumsOf, Table}
-use Rattle.vp_count.proofs.HandNumbers.{spread_of}
+use Rattle.vp_hold.specs.Means.{mean}
+use Rattle.vp_hold.proofs.Means.{mean_of, of_sums}
 use Rattle.vp_hits.specs.Hits.{AreHits, Asked, chance, hit, hits, is_asked, mark}
 use Rattle.vp_hits.specs.Numbers.{AreNumbers, AreTwoHits, AskedTwo, place_among, told, two_hits, two_marks}
 
@@ -79,145 +77,78 @@ pub two_told : (asked : AskedTwo) (numbers : List ℕ) (sums : Table) → IsTabl
 unfolding hit
 two_told asked numbers sums t are s = sums_told asked.table (two_marks asked.first asked.second) numbers sums t are s
 
--- ---- chances out of the sums
+-- ---- chances out of the means
 
-of_asked : (asked own : Asked) (scales : List ℕ) (sums : Table) → own ≡ asked → AreHits own scales sums → AreHits asked scales sums
-of_asked asked own scales sums e h = subst (λ (a : Asked). AreHits a scales sums) e h
+of_asked : (asked own : Asked) (sums : Table) → own ≡ asked → AreHits own sums → AreHits asked sums
+of_asked asked own sums e h = subst (λ (a : Asked). AreHits a sums) e h
 
-pub hit_le : (table : PayTable) (place : Option ℕ) (hand : List ℕ) → hit table place hand ≤ 1
+pub told_chance : (asked own : Asked) (sums : Table) (hand : List ℕ) (mask : ℕ) → own ≡ asked → AreHits own sums → IsHand hand → in_deck asked.table.deck hand ≡ true
+    → mean sums hand mask ≡ chance asked.table asked.line hand mask
+unfolding chance hits
+told_chance asked own sums hand mask e g h d = mean_of asked.table.deck (hit asked.table asked.line) sums hand mask (of_asked asked own sums e g).counted h d
+
+pub in_hits : (asked own : Asked) (sums : Table) (hand : List ℕ) → own ≡ asked → AreHits own sums → in_deck asked.table.deck hand ≡ true → in_deck sums.size hand ≡ true
+in_hits asked own sums hand e g d = of_sums asked.table.deck (hit asked.table asked.line) sums hand (of_asked asked own sums e g).counted d
+
+hit_le : (table : PayTable) (place : Option ℕ) (hand : List ℕ) → hit table place hand ≤ 1
 unfolding hit
 hit_le table place hand = mark_le place (line table hand)
 
-sum_of_hits : (table : PayTable) (place : Option ℕ) (hand : List ℕ) (mask : ℕ) → IsHand hand → in_deck table.deck hand ≡ true → spread table.deck (hand_numbers table.deck (hit table place)) hand mask ≡ hits table place hand mask
-unfolding hits
-sum_of_hits table place hand mask h d = spread_of table.deck (hit table place) hand mask (hand_is_set table.deck hand h d) h.five
-
--- what the sums of some numbers tell of a hold
-counted : (n : ℕ) (f : List ℕ → ℕ) (sums : Table) (hand cards : List ℕ) (mask size : ℕ) (numbers : List ℕ) (sum : ℕ)
-    → AreSumsOf n f sums → cards ≡ hand → size ≡ sums.size → numbers ≡ sums.numbers → sum ≡ spread size numbers cards mask → sum ≡ spread n (hand_numbers n f) hand mask
-counted n f sums hand cards mask size numbers sum b same s w is =
-    is
-    ∙ ap (λ m. spread m numbers cards mask) (s ∙ b.size)
-    ∙ ap (λ (x : List ℕ). spread n x cards mask) (w ∙ b.numbers)
-    ∙ ap (λ (x : List ℕ). spread n (hand_numbers n f) x mask) same
-
-pub told_hits : (asked own : Asked) (scales : List ℕ) (sums : Table) (hand cards : List ℕ) (mask size : ℕ) (numbers : List ℕ) (sum : ℕ)
-    → own ≡ asked → AreHits own scales sums → IsHand hand → in_deck asked.table.deck hand ≡ true → cards ≡ hand
-    → size ≡ sums.size → numbers ≡ sums.numbers → sum ≡ spread size numbers cards mask → sum ≡ hits asked.table asked.line hand mask
-told_hits asked own scales sums hand cards mask size numbers sum e g h d same s w is =
-    let b : AreHits asked scales sums = of_asked asked own scales sums e g in
-    counted asked.table.deck (hit asked.table asked.line) sums hand cards mask size numbers sum b.counted same s w is ∙ sum_of_hits asked.table asked.line hand mask h d
-
-times_scale : (x m c s l : ℕ) → x ≤ m * c → s * c ≡ l → x * s ≤ m * l
-times_scale x m c s l h e =
-    let p : x * s ≤ (m * c) * s = mul-le-mul_right s h in
-    let q : (m * c) * s ≡ m * l = mul_assoc m c s ∙ ap (λ y. m * y) (mul_comm c s ∙ e) in
-    rw q at p
-
--- a hold hits a line at most as often as it has draws
-hits_le : (table : PayTable) (place : Option ℕ) (hand : List ℕ) (mask : ℕ) → Dealt table.deck hand → hits table place hand mask ≤ 1 * choose (table.deck - 5) (length (discarded mask hand))
-unfolding hits
-hits_le table place hand mask d = sum_over_draws_le (hit table place) 1 table.deck hand mask d (λ h. hit_le table place h)
-
-few_discarded : (n : ℕ) (hand : List ℕ) (mask : ℕ) → Dealt n hand → length (discarded mask hand) ≤ 5
-few_discarded n hand mask d = omega (arith, length-held mask hand, d.five)
-
 -- no chance is above one
 pub chance_le : (table : PayTable) (place : Option ℕ) (hand : List ℕ) (mask : ℕ) → IsTable table → Dealt table.deck hand → chance table place hand mask ≤ common table.deck
-unfolding chance
+unfolding chance hits
 chance_le table place hand mask t d =
     let k : ℕ = length (discarded mask hand) in
-    let one : hits table place hand mask * scale table.deck k ≤ 1 * common table.deck =
-    times_scale (hits table place hand mask) 1 (choose (table.deck - 5) k) (scale table.deck k) (common table.deck) (hits_le table place hand mask d) (scale_exact table.deck k t.known_deck (few_discarded table.deck hand mask d)) in
+    let few : k ≤ 5 = omega (arith, length-held mask hand, d.five) in
+    let most : sum_over_draws (hit table place) table.deck hand mask ≤ 1 * choose (table.deck - 5) k = sum_over_draws_le (hit table place) 1 table.deck hand mask d (λ h. hit_le table place h) in
+    let one : sum_over_draws (hit table place) table.deck hand mask * scale table.deck k ≤ 1 * common table.deck =
+    scaled_le _ 1 (choose (table.deck - 5) k) (scale table.deck k) (common table.deck) most (scale_exact table.deck k t.known_deck few) in
     omega (arith, one)
-
-chance_is : (table : PayTable) (place : Option ℕ) (hand : List ℕ) (mask : ℕ) → hits table place hand mask * scale table.deck (length (discarded mask hand)) ≡ chance table place hand mask
-unfolding chance
-chance_is table place hand mask = refl
-
--- a number of hits and its scale, of which a chance is made
-pub record Scaled (table : PayTable) (place : Option ℕ) (hand : List ℕ) (mask sum factor : ℕ) : Type 0 where
-  pub fits : sum * factor < 2 ^ 64
-  pub chance : sum * factor ≡ chance table place hand mask
-
-scaled_by : (table : PayTable) (place : Option ℕ) (hand : List ℕ) (mask sum factor : ℕ) → IsTable table → IsHand hand → in_deck table.deck hand ≡ true
-    → factor ≡ scale table.deck (length (discarded mask hand)) → sum ≡ hits table place hand mask → Scaled table place hand mask sum factor
-scaled_by table place hand mask sum factor t h d f is =
-    let value : sum * factor ≡ chance table place hand mask = rw (is, f) (chance_is table place hand mask) in
-    record {
-      fits = omega (arith, value, chance_le table place hand mask t (dealt_from table.deck hand h d), common_small table.deck t.known_deck);
-      chance = value;
-    }
-
-pub scaled_to : (asked own : Asked) (scales : List ℕ) (sums : Table) (hand : List ℕ) (mask sum : ℕ) → own ≡ asked → AreHits own scales sums → IsHand hand → in_deck asked.table.deck hand ≡ true → mask < 32
-    → sum ≡ hits asked.table asked.line hand mask → Scaled asked.table asked.line hand mask sum (get_or scales mask 0)
-scaled_to asked own scales sums hand mask sum e g h d l is =
-    let b : AreHits asked scales sums = of_asked asked own scales sums e g in
-    scaled_by asked.table asked.line hand mask sum (get_or scales mask 0) b.rules h d (b.scaled hand mask h.five l) is
 
 -- ---- two lines at once
 
-sum_two : {A : Type 0} (f g : A → ℕ) (xs : List A) → sum_by (λ x. f x + 2097152 * g x) xs ≡ sum_by f xs + 2097152 * sum_by g xs
+sum_two : {A : Type 0} (f g : A → ℕ) (xs : List A) → sum_by (λ x. f x + 16777216 * g x) xs ≡ sum_by f xs + 16777216 * sum_by g xs
 sum_two f g [] = omega arith
 sum_two f g (x ∷ xs) =
     let ih = sum_two f g xs in
-    let whole = sum_by-cons (λ a. f a + 2097152 * g a) x xs in
+    let whole = sum_by-cons (λ a. f a + 16777216 * g a) x xs in
     let left = sum_by-cons f x xs in
     let right = sum_by-cons g x xs in
     omega arith
 
-sum_of_two : (table : PayTable) (first second : Option ℕ) (hand : List ℕ) (mask : ℕ) → IsHand hand → in_deck table.deck hand ≡ true
-    → spread table.deck (hand_numbers table.deck (two_hits table first second)) hand mask ≡ hits table first hand mask + 2097152 * hits table second hand mask
-unfolding hits sum_over_draws
-sum_of_two table first second hand mask h d =
-    spread_of table.deck (two_hits table first second) hand mask (hand_is_set table.deck hand h d) h.five
-    ∙ sum_two (λ drawn. hit table first (joined (held mask hand) drawn)) (λ drawn. hit table second (joined (held mask hand) drawn)) (draws table.deck hand mask)
+-- the sum of both marks, scaled, is the chances of both lines
+two_chances : (table : PayTable) (first second : Option ℕ) (hand : List ℕ) (mask : ℕ)
+    → sum_over_draws (two_hits table first second) table.deck hand mask * scale table.deck (length (discarded mask hand)) ≡ chance table first hand mask + 16777216 * chance table second hand mask
+unfolding chance hits sum_over_draws
+two_chances table first second hand mask =
+    ap (λ sum. sum * scale table.deck (length (discarded mask hand)))
+    (sum_two (λ drawn. hit table first (joined (held mask hand) drawn)) (λ drawn. hit table second (joined (held mask hand) drawn)) (draws table.deck hand mask))
+    ∙ shared _ _ (scale table.deck (length (discarded mask hand)))
+  where
+    shared : (a b s : ℕ) → (a + 16777216 * b) * s ≡ a * s + 16777216 * (b * s)
+    shared a b s = omega arith
 
--- no hold has more draws than five cards out of 49
-draws_few : (k : ℕ) → k ≤ 5 → choose 49 k ≤ 1906884
-draws_few zero l = omega (arith, ways_are 49 0 (lit≤ tt) (lit≤ tt))
-draws_few (suc zero) l = omega (arith, ways_are 49 1 (lit≤ tt) (lit≤ tt))
-draws_few (suc (suc zero)) l = omega (arith, ways_are 49 2 (lit≤ tt) (lit≤ tt))
-draws_few (suc (suc (suc zero))) l = omega (arith, ways_are 49 3 (lit≤ tt) (lit≤ tt))
-draws_few (suc (suc (suc (suc zero)))) l = omega (arith, ways_are 49 4 (lit≤ tt) (lit≤ tt))
-draws_few (suc (suc (suc (suc (suc zero))))) l = omega (arith, ways_are 49 5 (lit≤ tt) (lit≤ tt))
-draws_few (suc (suc (suc (suc (suc (suc k)))))) l = absurd (omega arith)
+of_two : (asked own : AskedTwo) (sums : Table) → own ≡ asked → AreTwoHits own sums → AreTwoHits asked sums
+of_two asked own sums e h = subst (λ (a : AskedTwo). AreTwoHits a sums) e h
 
-hits_few : (table : PayTable) (place : Option ℕ) (hand : List ℕ) (mask : ℕ) → IsTable table → Dealt table.deck hand → hits table place hand mask < 2097152
-hits_few table place hand mask t d =
-    let k : ℕ = length (discarded mask hand) in
-    let least : table.deck - 5 ≤ 49 = omega (arith, t.known_deck.1) in
-    omega (arith, hits_le table place hand mask d, choose_le (table.deck - 5) 49 k least, draws_few k (few_discarded table.deck hand mask d))
+pub in_two : (asked own : AskedTwo) (sums : Table) (hand : List ℕ) → own ≡ asked → AreTwoHits own sums → in_deck asked.table.deck hand ≡ true → in_deck sums.size hand ≡ true
+in_two asked own sums hand e g d = of_sums asked.table.deck (two_hits asked.table asked.first asked.second) sums hand (of_two asked own sums e g).counted d
 
--- both numbers of hits
-record Parted (one other sum : ℕ) : Type 0 where
-  pub first : sum % 2097152 ≡ one
-  pub second : sum / 2097152 ≡ other
+-- both chances
+pub record Two (asked : AskedTwo) (hand : List ℕ) (mask both : ℕ) : Type 0 where
+  pub first : both % 16777216 ≡ chance asked.table asked.first hand mask
+  pub second : both / 16777216 ≡ chance asked.table asked.second hand mask
 
-parted : (one other sum : ℕ) → one < 2097152 → sum ≡ one + 2097152 * other → Parted one other sum
-parted one other sum l e = record { first = omega (arith, e); second = omega (arith, e) }
-
-of_two : (asked own : AskedTwo) (scales : List ℕ) (sums : Table) → own ≡ asked → AreTwoHits own scales sums → AreTwoHits asked scales sums
-of_two asked own scales sums e h = subst (λ (a : AskedTwo). AreTwoHits a scales sums) e h
-
--- what the sums of two lines tell of a hold
-pub record Two (asked : AskedTwo) (hand : List ℕ) (mask sum factor : ℕ) : Type 0 where
-  pub first : Scaled asked.table asked.first hand mask (sum % 2097152) factor
-  pub second : Scaled asked.table asked.second hand mask (sum / 2097152) factor
-
-pub told_two : (asked own : AskedTwo) (scales : List ℕ) (sums : Table) (hand cards : List ℕ) (mask size : ℕ) (numbers : List ℕ) (sum : ℕ)
-    → own ≡ asked → AreTwoHits own scales sums → IsHand hand → in_deck asked.table.deck hand ≡ true → mask < 32 → cards ≡ hand
-    → size ≡ sums.size → numbers ≡ sums.numbers → sum ≡ spread size numbers cards mask → Two asked hand mask sum (get_or scales mask 0)
-told_two asked own scales sums hand cards mask size numbers sum e g h d l same s w is =
-    let b : AreTwoHits asked scales sums = of_two asked own scales sums e g in
+pub told_two : (asked own : AskedTwo) (sums : Table) (hand : List ℕ) (mask both : ℕ) → own ≡ asked → AreTwoHits own sums → IsHand hand → in_deck asked.table.deck hand ≡ true
+    → both ≡ mean sums hand mask → Two asked hand mask both
+told_two asked own sums hand mask both e g h d is =
+    let b : AreTwoHits asked sums = of_two asked own sums e g in
     let table = asked.table in
-    let whole : sum ≡ hits table asked.first hand mask + 2097152 * hits table asked.second hand mask =
-    counted table.deck (two_hits table asked.first asked.second) sums hand cards mask size numbers sum b.counted same s w is ∙ sum_of_two table asked.first asked.second hand mask h d in
-    let parts = parted (hits table asked.first hand mask) (hits table asked.second hand mask) sum (hits_few table asked.first hand mask b.rules (dealt_from table.deck hand h d)) whole in
-    record {
-      first = scaled_by table asked.first hand mask (sum % 2097152) (get_or scales mask 0) b.rules h d (b.scaled hand mask h.five l) parts.first;
-      second = scaled_by table asked.second hand mask (sum / 2097152) (get_or scales mask 0) b.rules h d (b.scaled hand mask h.five l) parts.second;
-    }
+    let whole : both ≡ chance table asked.first hand mask + 16777216 * chance table asked.second hand mask =
+    is ∙ mean_of table.deck (two_hits table asked.first asked.second) sums hand mask b.counted h d ∙ two_chances table asked.first asked.second hand mask in
+    let small : chance table asked.first hand mask < 16777216 =
+    omega (arith, chance_le table asked.first hand mask b.rules (dealt_from table.deck hand h d), common_small table.deck b.rules.known_deck) in
+    record { first = omega (arith, whole, small); second = omega (arith, whole, small) }
 
 -- ---- bounds on the numbers
 

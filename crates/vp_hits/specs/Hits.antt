@@ -9,7 +9,6 @@ use Rattle.vp_suit.specs.Classes.{representative}
 use Rattle.vp_wild.specs.Payment.{line}
 use Rattle.vp_draws.specs.Draws.{least_best}
 use Rattle.vp_count.specs.Table.{AreSumsOf, Table}
-use Rattle.vp_hold.specs.Games.{AreScales}
 
 -- the first line found is the one asked for; None asks for hands that hit no line
 unfoldable pub is_asked : Option ℕ → Option ℕ → Bool
@@ -52,7 +51,6 @@ pub record Asked : Type 0 where
   pub line : Option ℕ
 
 -- the table keeps the rules, and the sums are those of the hits of the line among all hands of the deck
-pub record AreHits (asked : Asked) (scales : List ℕ) (sums : Table) : Type 0 where
+pub record AreHits (asked : Asked) (sums : Table) : Type 0 where
   pub rules : IsTable asked.table
-  pub scaled : AreScales asked.table.deck scales
   pub counted : AreSumsOf asked.table.deck (hit asked.table asked.line) sums

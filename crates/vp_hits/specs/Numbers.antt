@@ -8,7 +8,6 @@ use Rattle.vp_suit.specs.Classes.{representatives}
 use Rattle.vp_wild.specs.Payment.{line}
 use Rattle.vp_draws.specs.Draws.{least_best, sum_of_best}
 use Rattle.vp_count.specs.Table.{AreSumsOf, Table}
-use Rattle.vp_hold.specs.Games.{AreScales}
 use Rattle.vp_hits.specs.Hits.{hit, mark}
 
 -- where the number of the line found stands: that of no line behind those of at most 32 lines
@@ -29,12 +28,12 @@ pub record AreNumbers (f : Option ℕ → ℕ) (numbers : List ℕ) : Type 0 whe
   pub long : length numbers ≡ 33
   pub told : (found : Option ℕ) → IfSome found (λ place. place < 32) → number_of numbers found ≡ f found
 
--- two lines at once: a hit of the second counts more than all draws of a hold
+-- two lines at once: a hit of the second counts more than the common denominator of any deck
 abbrev pub two_marks : Option ℕ → Option ℕ → Option ℕ → ℕ
-two_marks first second found = mark first found + 2097152 * mark second found
+two_marks first second found = mark first found + 16777216 * mark second found
 
 abbrev pub two_hits : PayTable → Option ℕ → Option ℕ → List ℕ → ℕ
-two_hits table first second hand = hit table first hand + 2097152 * hit table second hand
+two_hits table first second hand = hit table first hand + 16777216 * hit table second hand
 
 -- a pay table and two of its lines
 pub record AskedTwo : Type 0 where
@@ -43,9 +42,8 @@ pub record AskedTwo : Type 0 where
   pub second : Option ℕ
 
 -- the table keeps the rules, and the sums are those of the hits of both lines among all hands of the deck
-pub record AreTwoHits (asked : AskedTwo) (scales : List ℕ) (sums : Table) : Type 0 where
+pub record AreTwoHits (asked : AskedTwo) (sums : Table) : Type 0 where
   pub rules : IsTable asked.table
-  pub scaled : AreScales asked.table.deck scales
   pub counted : AreSumsOf asked.table.deck (two_hits asked.table asked.first asked.second) sums
 
 -- the masks of the printed holds of the classes, by rising index, are the first of these words

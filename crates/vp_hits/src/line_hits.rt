@@ -7,22 +7,20 @@ ghost use Rattle.vp_sets.specs.Sets.{choose};
 ghost use Rattle.vp_count.specs.Table.{first_word};
 ghost use Rattle.vp_hits.specs.Hits.{chance};
 
-use crate::line_numbers::{marks_of, number_sums};
+use crate::line_numbers::{marks_of, number_means};
 use std::marker::{Brand, Model};
 use std::sync::ledger::{Blank, Ledger};
 use vp_card::Hand;
-use vp_count::{Reads, SumTable, held_total};
-use vp_hold::hold_scales;
+use vp_hold::HoldMeans;
 use vp_pay::PayTable;
 use vp_wild::Steps;
 
-/// A pay line of a table, or none, and the sums of how many hands of the deck have it.
+/// A pay line of a table, or none, and the means of the marks of the hands of the deck that have it.
 #[derive(Drop)]
 pub struct Hits<'a> {
     table: &'a PayTable,
     line: Option<u8>,
-    scales: [u64; 32],
-    sums: SumTable<'a>,
+    means: HoldMeans<'a>,
 }
 
 impl<'a> Model for Hits<'a> {
@@ -33,11 +31,11 @@ impl<'a> Model for Hits<'a> {
     ghost view = { λ h. record { table = h.table.now; line = h.line } };
 
     ghost invariant = { λ h.
-        AreHits (record { table = h.table.now; line = h.line }) h.scales h.sums };
+        AreHits (record { table = h.table.now; line = h.line }) h.means };
 }
 
 impl<'a> Hits<'a> {
-    /// Ranks every hand of the deck once, and makes the sums of the hands whose first line stands at the place `line`, or
+    /// Ranks every hand of the deck once, and makes the means of the hands whose first line stands at the place `line`, or
     /// that hit no line, in `words`, which may hold any numbers. One step of the counter for each hand.
     pub fn fill<L: Ledger>(
         table: &'a PayTable,
@@ -55,12 +53,11 @@ impl<'a> Hits<'a> {
         Hits {
             table,
             line,
-            scales: hold_scales(table.deck),
-            sums: number_sums(table, &marks_of(line), words, steps),
+            means: number_means(table, &marks_of(line), words, steps),
         }
     }
 
-    /// The hits of a line, or of none. The sums are made in `words`, which may hold any numbers; the hands are not counted.
+    /// The hits of a line, or of none. They are made in `words`, which may hold any numbers; the hands are not counted.
     pub fn of(table: &'a PayTable, line: Option<u8>, words: &'a mut [u64]) -> Hits<'a>
         requires rules { IsTable table.now }
         requires inside { IfSome line (λ place. place < length table.now.lines.items) }
@@ -78,9 +75,7 @@ impl<'a> Hits<'a> {
         requires mask { mask < 32 }
         ensures { result ≡ chance self.now.table self.now.line hand.now mask }
     {
-        let mut reads = Reads::new(&self.sums);
-        let total = held_total(&mut reads, &hand.numbers(), mask);
-        total * self.scales[mask as usize]
+        self.means.mean(hand, mask)
     }
 }
 

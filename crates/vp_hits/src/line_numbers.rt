@@ -1,4 +1,4 @@
-//! A number for each set of five cards, by its pay line, written by rising index, and the sums of these.
+//! A number for each set of five cards, by its pay line, written by rising index, and the means of these.
 
 ghost use Rattle.std.specs.Prelude.{◌≡◌, ◌+◌, ◌<◌, ◌≤◌, IfSome, length, map, slice_index};
 ghost use Rattle.std.specs.List.{All};
@@ -12,7 +12,7 @@ ghost use Rattle.vp_hits.specs.Hits.{mark};
 ghost use Rattle.vp_hits.specs.Numbers.{AreNumbers, number_of, place_among, told, two_marks};
 
 use std::sync::ledger::Ledger;
-use vp_count::SumTable;
+use vp_hold::HoldMeans;
 use vp_pay::PayTable;
 use vp_sets::{choose, next_set};
 use vp_wild::{KeptLines, Steps};
@@ -20,8 +20,9 @@ use vp_wild::{KeptLines, Steps};
 /// Where the number of the hands with no line stands: behind those of at most 32 lines.
 const NO_LINE: u8 = 32;
 
-/// What a hit of the second of two lines counts, where one of the first counts 1. No hold has so many draws.
-pub(crate) const SECOND: u64 = 2_097_152;
+/// What a hit of the second of two lines counts, where one of the first counts 1. No chance is so large, over the common
+/// denominator of any deck.
+pub(crate) const SECOND: u64 = 16_777_216;
 
 /// The place of a line, or of none, among the numbers.
 #[tactic(auto, unfolding(crate::specs::Numbers::place_among))]
@@ -57,13 +58,13 @@ pub(crate) fn two_marks_of(first: Option<u8>, second: Option<u8>) -> [u64; 33]
     numbers
 }
 
-/// The sums of the numbers of all hands of the deck, made in `words`. One step of the counter for each hand.
-pub(crate) fn number_sums<'a, L: Ledger>(
+/// The means of the numbers of all hands of the deck, made in `words`. One step of the counter for each hand.
+pub(crate) fn number_means<'a, L: Ledger>(
     table: &PayTable,
     numbers: &[u64; 33],
     words: &'a mut [u64],
     steps: &mut Steps<L>,
-) -> SumTable<'a>
+) -> HoldMeans<'a>
     requires rules { IsTable table.now }
     requires many { length numbers.now ≡ 33 }
     requires bounded { All (λ x. x ≤ 250000000000) numbers.now }
@@ -74,7 +75,7 @@ pub(crate) fn number_sums<'a, L: Ledger>(
     let hands = choose(table.deck, 5) as usize;
     let first = words.len() - hands;
     write_numbers(table, numbers, &mut words[first..], steps);
-    SumTable::fill(table.deck, words)
+    HoldMeans::fill(table.deck, words)
 }
 
 /// Writes, at the index of each set of five cards of the deck, the number of the hand's line. One step of the counter for

@@ -1,4 +1,4 @@
-//! The hits of two lines, out of one table of sums.
+//! The hits of two lines, out of the means of one number.
 
 ghost use Rattle.std.specs.Prelude.{◌≡◌, ◌<◌, true, IfSome, length};
 ghost use Rattle.vp_card.specs.Cards.{in_deck};
@@ -6,23 +6,21 @@ ghost use Rattle.vp_pay.specs.Table.{IsTable};
 ghost use Rattle.vp_count.specs.Table.{first_word};
 ghost use Rattle.vp_hits.specs.Hits.{chance};
 
-use crate::line_numbers::{SECOND, number_sums, two_marks_of};
+use crate::line_numbers::{SECOND, number_means, two_marks_of};
 use std::marker::{Brand, Model};
 use std::sync::ledger::{Blank, Ledger};
 use vp_card::Hand;
-use vp_count::{Reads, SumTable, all_totals};
-use vp_hold::hold_scales;
+use vp_hold::HoldMeans;
 use vp_pay::PayTable;
 use vp_wild::Steps;
 
-/// Two pay lines of a table, or a line and none, and the sums of how many hands of the deck have them.
+/// Two pay lines of a table, or a line and none, and the means of one number that marks both.
 #[derive(Drop)]
 pub(crate) struct PairHits<'a> {
     table: &'a PayTable,
     first: Option<u8>,
     second: Option<u8>,
-    scales: [u64; 32],
-    sums: SumTable<'a>,
+    means: HoldMeans<'a>,
 }
 
 impl<'a> Model for PairHits<'a> {
@@ -33,11 +31,11 @@ impl<'a> Model for PairHits<'a> {
     ghost view = { λ h. record { table = h.table.now; first = h.first; second = h.second } };
 
     ghost invariant = { λ h.
-        AreTwoHits (record { table = h.table.now; first = h.first; second = h.second }) h.scales h.sums };
+        AreTwoHits (record { table = h.table.now; first = h.first; second = h.second }) h.means };
 }
 
 impl<'a> PairHits<'a> {
-    /// The hits of two lines. The sums are made in `words`, which may hold any numbers.
+    /// The hits of two lines. They are made in `words`, which may hold any numbers.
     pub(crate) fn of(
         table: &'a PayTable,
         first: Option<u8>,
@@ -60,11 +58,8 @@ impl<'a> PairHits<'a> {
         ensures first { result.0 ≡ chance self.now.table self.now.first hand.now mask }
         ensures second { result.1 ≡ chance self.now.table self.now.second hand.now mask }
     {
-        let mut reads = Reads::new(&self.sums);
-        let totals = all_totals(&mut reads, &hand.numbers());
-        let total = totals[mask as usize];
-        let scale = self.scales[mask as usize];
-        (total % SECOND * scale, total / SECOND * scale)
+        let both = self.means.means(hand)[mask as usize];
+        (both % SECOND, both / SECOND)
     }
 }
 
@@ -90,7 +85,6 @@ fn pair_of<'a, L: Ledger>(
         table,
         first,
         second,
-        scales: hold_scales(table.deck),
-        sums: number_sums(table, &numbers, words, &mut Steps::<L>::new(blank)),
+        means: number_means(table, &numbers, words, &mut Steps::<L>::new(blank)),
     }
 }

@@ -1,3 +1,4 @@
 pub mod ByMask
+pub mod Means
 pub mod Values
 pub mod SquaredPayments

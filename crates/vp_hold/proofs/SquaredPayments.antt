@@ -1,5 +1,5 @@
 -- The sums of the squares of the payments, out of the payments of a game.
-use Rattle.std.proofs.Common.{◌≡◌, ℕ, ◌+◌, ◌-◌, ◌*◌, ◌^◌, ◌<◌, ◌≤◌, true, List, [], ◌∷◌, ◌++◌, length, map, get_or, take, set, refl, ap, sym, subst, ◌∙◌, arith}
+use Rattle.std.proofs.Common.{◌≡◌, ℕ, ◌+◌, ◌-◌, ◌*◌, ◌<◌, ◌≤◌, true, List, [], ◌∷◌, ◌++◌, length, map, get_or, take, set, refl, ap, sym, subst, ◌∙◌, arith}
 use Rattle.std.proofs.Math.Nat.{mul-le-mul_right}
 use Rattle.std.specs.List.{All}
 use Rattle.std.proofs.lemmas.List.{length-set, take_more_set, map_more, take_all}
@@ -11,17 +11,15 @@ use Rattle.vp_pay.specs.Table.{IsTable}
 use Rattle.vp_wild.specs.Payment.{pay}
 use Rattle.vp_wild.specs.Kept.{Bet}
 use Rattle.vp_sets.specs.Sets.{choose}
-use Rattle.vp_sets.specs.Draws.{discarded, scale}
 use Rattle.vp_sets.specs.Index.{colex}
-use Rattle.vp_sets.proofs.Colex.{hand_is_set}
-use Rattle.vp_sets.proofs.Holds.{dealt_from}
 use Rattle.vp_draws.specs.Draws.{total2, value2}
 use Rattle.vp_draws.proofs.Payments.{pay_le}
-use Rattle.vp_draws.proofs.Values.{value2_fits}
-use Rattle.vp_count.specs.Sums.{hand_numbers, spread}
+use Rattle.vp_count.specs.Sums.{hand_numbers}
 use Rattle.vp_count.specs.Table.{Table, five_numbers, first_word}
-use Rattle.vp_count.proofs.HandNumbers.{five_written, numbers_small, spread_of}
-use Rattle.vp_hold.specs.Games.{IsGame, AreSquares}
+use Rattle.vp_count.proofs.HandNumbers.{five_written, numbers_small}
+use Rattle.vp_hold.specs.Games.{AreSquares}
+use Rattle.vp_hold.specs.Means.{mean}
+use Rattle.vp_hold.proofs.Means.{mean_of, of_sums}
 
 pub square_le : (p : ℕ) → p ≤ 500000 → p * p ≤ 250000000000
 square_le p l =
@@ -72,40 +70,17 @@ payments_small table coin payments rules is =
 
 -- ---- values out of the squares
 
-pub of_bet2 : (bet : Bet) (table : PayTable) (coin : ℕ) (scales : List ℕ) (sums : Table) → record { table = table; coin = coin } ≡ bet → AreSquares table coin scales sums → AreSquares bet.table bet.coin scales sums
-of_bet2 bet table coin scales sums e g = subst (λ (t : Bet). AreSquares t.table t.coin scales sums) e g
+of_bet2 : (bet : Bet) (table : PayTable) (coin : ℕ) (sums : Table) → record { table = table; coin = coin } ≡ bet → AreSquares table coin sums → AreSquares bet.table bet.coin sums
+of_bet2 bet table coin sums e g = subst (λ (t : Bet). AreSquares t.table t.coin sums) e g
 
-total_of_squares : (table : PayTable) (coin : ℕ) (hand : List ℕ) (mask : ℕ) → IsHand hand → in_deck table.deck hand ≡ true
-    → spread table.deck (hand_numbers table.deck (λ h. pay table coin h * pay table coin h)) hand mask ≡ total2 table coin hand mask
-unfolding total2
-total_of_squares table coin hand mask h d = spread_of table.deck (λ h. pay table coin h * pay table coin h) hand mask (hand_is_set table.deck hand h d) h.five
+-- the means of the squares are the values of the holds with squares
+pub value2_told : (bet : Bet) (table : PayTable) (coin : ℕ) (sums : Table) (hand : List ℕ) (mask : ℕ)
+    → record { table = table; coin = coin } ≡ bet → AreSquares table coin sums → IsHand hand → in_deck bet.table.deck hand ≡ true → mean sums hand mask ≡ value2 bet.table bet.coin hand mask
+unfolding total2 value2
+value2_told bet table coin sums hand mask e g h d =
+    mean_of bet.table.deck (λ final. pay bet.table bet.coin final * pay bet.table bet.coin final) sums hand mask (of_bet2 bet table coin sums e g).squared h d
 
--- what the sums of the squares tell of a hold
-pub told2 : (bet : Bet) (table : PayTable) (coin : ℕ) (scales : List ℕ) (sums : Table) (hand cards : List ℕ) (mask size : ℕ) (numbers : List ℕ) (sum : ℕ)
-    → record { table = table; coin = coin } ≡ bet → AreSquares table coin scales sums → IsHand hand → in_deck bet.table.deck hand ≡ true → cards ≡ hand
-    → size ≡ sums.size → numbers ≡ sums.numbers → sum ≡ spread size numbers cards mask → sum ≡ total2 bet.table bet.coin hand mask
-told2 bet table coin scales sums hand cards mask size numbers sum e g h d same s w is =
-    let b : AreSquares bet.table bet.coin scales sums = of_bet2 bet table coin scales sums e g in
-    is
-    ∙ ap (λ n. spread n numbers cards mask) (s ∙ b.squared.size)
-    ∙ ap (λ (x : List ℕ). spread bet.table.deck x cards mask) (w ∙ b.squared.numbers)
-    ∙ ap (λ (x : List ℕ). spread bet.table.deck (hand_numbers bet.table.deck (λ h. pay bet.table bet.coin h * pay bet.table bet.coin h)) x mask) same
-    ∙ total_of_squares bet.table bet.coin hand mask h d
-
--- a total and its scale, of which the value of a hold with squares is made
-pub record Scaled2 (bet : Bet) (hand : List ℕ) (mask sum factor : ℕ) : Type 0 where
-  pub fits : sum * factor < 2 ^ 64
-  pub value : sum * factor ≡ value2 bet.table bet.coin hand mask
-
-value2_is : (table : PayTable) (coin : ℕ) (hand : List ℕ) (mask : ℕ) → total2 table coin hand mask * scale table.deck (length (discarded mask hand)) ≡ value2 table coin hand mask
-unfolding value2
-value2_is table coin hand mask = refl
-
-pub scaled2 : (bet : Bet) (table : PayTable) (coin : ℕ) (scales : List ℕ) (sums : Table) (hand : List ℕ) (mask sum : ℕ)
-    → record { table = table; coin = coin } ≡ bet → AreSquares table coin scales sums → IsHand hand → in_deck bet.table.deck hand ≡ true → mask < 32
-    → sum ≡ total2 bet.table bet.coin hand mask → Scaled2 bet hand mask sum (get_or scales mask 0)
-scaled2 bet table coin scales sums hand mask sum e g h d l is =
-    let b : AreSquares bet.table bet.coin scales sums = of_bet2 bet table coin scales sums e g in
-    let factor : get_or scales mask 0 ≡ scale bet.table.deck (length (discarded mask hand)) = b.scaled hand mask h.five l in
-    let value : sum * get_or scales mask 0 ≡ value2 bet.table bet.coin hand mask = rw (is, factor) (value2_is bet.table bet.coin hand mask) in
-    record { fits = omega (arith, value, value2_fits bet.table bet.coin hand mask b.bet.rules (dealt_from bet.table.deck hand h d)); value = value }
+pub in_squares : (bet : Bet) (table : PayTable) (coin : ℕ) (sums : Table) (hand : List ℕ)
+    → record { table = table; coin = coin } ≡ bet → AreSquares table coin sums → in_deck bet.table.deck hand ≡ true → in_deck sums.size hand ≡ true
+in_squares bet table coin sums hand e g d =
+    of_sums bet.table.deck (λ final. pay bet.table bet.coin final * pay bet.table bet.coin final) sums hand (of_bet2 bet table coin sums e g).squared d

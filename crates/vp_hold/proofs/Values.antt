@@ -1,5 +1,5 @@
--- The values of holds come from the sums of the payments.
-use Rattle.std.proofs.Common.{◌≡◌, ℕ, ◌+◌, ◌*◌, ◌^◌, ◌<◌, ◌≤◌, true, List, length, map, get_or, set, ap, sym, subst, ◌∙◌, arith, inl, inr}
+-- The means of the payments are the values of holds.
+use Rattle.std.proofs.Common.{◌≡◌, ℕ, ◌+◌, ◌<◌, ◌≤◌, true, List, length, map, get_or, set, ap, sym, subst, ◌∙◌, arith, inl, inr}
 use Rattle.std.specs.List.{range_with_len}
 use Rattle.std.proofs.lemmas.Bool.{cases_eq}
 use Rattle.std.proofs.lemmas.List.{ext_get_or, get_or-set_same, get_or-set_other, length-set}
@@ -8,51 +8,24 @@ use Rattle.vp_card.specs.Cards.{in_deck, IsHand}
 use Rattle.vp_pay.specs.declared.table.PayTable.{PayTable}
 use Rattle.vp_wild.specs.Payment.{pay}
 use Rattle.vp_wild.specs.Kept.{Bet}
-use Rattle.vp_sets.specs.Draws.{discarded, scale}
-use Rattle.vp_sets.proofs.Colex.{hand_is_set}
-use Rattle.vp_sets.proofs.Holds.{dealt_from}
 use Rattle.vp_draws.specs.Draws.{masks, total, value}
-use Rattle.vp_draws.proofs.Values.{value_fits, value_is}
-use Rattle.vp_count.specs.Sums.{hand_numbers, spread}
 use Rattle.vp_count.specs.Table.{Table}
-use Rattle.vp_count.proofs.HandNumbers.{spread_of}
 use Rattle.vp_hold.specs.Games.{IsGame}
+use Rattle.vp_hold.specs.Means.{mean}
+use Rattle.vp_hold.proofs.Means.{mean_of, of_sums}
 
--- the sum over all draws of the payment at the final hand's index is the total of the hold
-pub total_of_payments : (table : PayTable) (coin : ℕ) (hand : List ℕ) (mask : ℕ) → IsHand hand → in_deck table.deck hand ≡ true → spread table.deck (hand_numbers table.deck (pay table coin)) hand mask ≡ total table coin hand mask
-unfolding total
-total_of_payments table coin hand mask h d = spread_of table.deck (pay table coin) hand mask (hand_is_set table.deck hand h d) h.five
+of_bet : (bet : Bet) (table : PayTable) (coin : ℕ) (sums : Table) → record { table = table; coin = coin } ≡ bet → IsGame table coin sums → IsGame bet.table bet.coin sums
+of_bet bet table coin sums e g = subst (λ (t : Bet). IsGame t.table t.coin sums) e g
 
-of_bet : (bet : Bet) (table : PayTable) (coin : ℕ) (scales : List ℕ) (sums : Table) → record { table = table; coin = coin } ≡ bet → IsGame table coin scales sums → IsGame bet.table bet.coin scales sums
-of_bet bet table coin scales sums e g = subst (λ (t : Bet). IsGame t.table t.coin scales sums) e g
+-- the means of the payments are the values of the holds
+pub value_told : (bet : Bet) (table : PayTable) (coin : ℕ) (sums : Table) (hand : List ℕ) (mask : ℕ)
+    → record { table = table; coin = coin } ≡ bet → IsGame table coin sums → IsHand hand → in_deck bet.table.deck hand ≡ true → mean sums hand mask ≡ value bet.table bet.coin hand mask
+unfolding total value
+value_told bet table coin sums hand mask e g h d = mean_of bet.table.deck (pay bet.table bet.coin) sums hand mask (of_bet bet table coin sums e g).paid h d
 
--- what the sums of a game tell of a hold
-pub told : (bet : Bet) (table : PayTable) (coin : ℕ) (scales : List ℕ) (sums : Table) (hand cards : List ℕ) (mask size : ℕ) (numbers : List ℕ) (sum : ℕ)
-    → record { table = table; coin = coin } ≡ bet → IsGame table coin scales sums → IsHand hand → in_deck bet.table.deck hand ≡ true → cards ≡ hand
-    → size ≡ sums.size → numbers ≡ sums.numbers → sum ≡ spread size numbers cards mask → sum ≡ total bet.table bet.coin hand mask
-told bet table coin scales sums hand cards mask size numbers sum e g h d same s w is =
-    let b : IsGame bet.table bet.coin scales sums = of_bet bet table coin scales sums e g in
-    is
-    ∙ ap (λ n. spread n numbers cards mask) (s ∙ b.paid.size)
-    ∙ ap (λ (x : List ℕ). spread bet.table.deck x cards mask) (w ∙ b.paid.numbers)
-    ∙ ap (λ (x : List ℕ). spread bet.table.deck (hand_numbers bet.table.deck (pay bet.table bet.coin)) x mask) same
-    ∙ total_of_payments bet.table bet.coin hand mask h d
-
--- a total and its scale, of which a game makes the value of a hold
-pub record Scaled (bet : Bet) (hand : List ℕ) (mask sum factor : ℕ) : Type 0 where
-  pub fits : sum * factor < 2 ^ 64
-  pub value : sum * factor ≡ value bet.table bet.coin hand mask
-
-pub scaled : (bet : Bet) (table : PayTable) (coin : ℕ) (scales : List ℕ) (sums : Table) (hand : List ℕ) (mask sum : ℕ)
-    → record { table = table; coin = coin } ≡ bet → IsGame table coin scales sums → IsHand hand → in_deck bet.table.deck hand ≡ true → mask < 32
-    → sum ≡ total bet.table bet.coin hand mask → Scaled bet hand mask sum (get_or scales mask 0)
-scaled bet table coin scales sums hand mask sum e g h d l is =
-    let b : IsGame bet.table bet.coin scales sums = of_bet bet table coin scales sums e g in
-    let factor : get_or scales mask 0 ≡ scale bet.table.deck (length (discarded mask hand)) = b.scaled hand mask h.five l in
-    record {
-      fits = rw (is, factor) (value_fits bet.table bet.coin hand mask b.bet.rules (dealt_from bet.table.deck hand h d));
-      value = rw (is, factor) (value_is bet.table bet.coin hand mask);
-    }
+pub in_game : (bet : Bet) (table : PayTable) (coin : ℕ) (sums : Table) (hand : List ℕ)
+    → record { table = table; coin = coin } ≡ bet → IsGame table coin sums → in_deck bet.table.deck hand ≡ true → in_deck sums.size hand ≡ true
+in_game bet table coin sums hand e g d = of_sums bet.table.deck (pay bet.table bet.coin) sums hand (of_bet bet table coin sums e g).paid d
 
 -- ---- the values of all holds
 

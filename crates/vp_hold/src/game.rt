@@ -1,4 +1,4 @@
-//! A bet on a pay table, with the sums that all its values come from.
+//! A bet on a pay table, with the means that its values are.
 
 ghost use Rattle.std.specs.Prelude.{ℕ, ◌≡◌, ◌+◌, ◌<◌, ◌≤◌, true, length, map};
 ghost use Rattle.vp_card.specs.Cards.{in_deck};
@@ -8,23 +8,21 @@ ghost use Rattle.vp_sets.specs.Sets.{choose};
 ghost use Rattle.vp_count.specs.Table.{first_word};
 ghost use Rattle.vp_draws.specs.Draws.{best, least_best, masks, ties, value};
 
-use crate::payments::payment_sums;
-use crate::scales::hold_scales;
+use crate::HoldMeans;
+use crate::payments::payment_means;
 use std::marker::{Brand, Model};
 use std::sync::ledger::{Blank, Ledger};
 use vp_card::Hand;
-use vp_count::{Reads, SumTable, all_totals, held_total};
 use vp_draws::Best;
 use vp_pay::PayTable;
 use vp_wild::Steps;
 
-/// A bet on a pay table, and the sums of the payments of all hands of its deck.
+/// A bet on a pay table, and the means of the payments of all hands of its deck.
 #[derive(Drop)]
 pub struct Game<'a> {
     pub(crate) table: &'a PayTable,
     pub(crate) coin: u8,
-    pub(crate) scales: [u64; 32],
-    pub(crate) sums: SumTable<'a>,
+    pub(crate) means: HoldMeans<'a>,
 }
 
 impl<'a> Model for Game<'a> {
@@ -35,7 +33,7 @@ impl<'a> Model for Game<'a> {
 
     ghost view = { λ g. record { table = g.table.now; coin = g.coin } };
 
-    ghost invariant = { λ g. IsGame g.table.now g.coin g.scales g.sums };
+    ghost invariant = { λ g. IsGame g.table.now g.coin g.means };
 }
 
 impl<'a> Game<'a> {
@@ -56,8 +54,7 @@ impl<'a> Game<'a> {
         Game {
             table,
             coin,
-            scales: hold_scales(table.deck),
-            sums: payment_sums(table, coin, words, steps),
+            means: payment_means(table, coin, words, steps),
         }
     }
 
@@ -95,9 +92,7 @@ impl<'a> Game<'a> {
         requires mask { mask < 32 }
         ensures { result ≡ value self.now.table self.now.coin hand.now mask }
     {
-        let mut reads = Reads::new(&self.sums);
-        let total = held_total(&mut reads, &hand.numbers(), mask);
-        total * self.scales[mask as usize]
+        self.means.mean(hand, mask)
     }
 
     /// The values of the 32 holds of the hand; the place of each is its mask.
@@ -105,12 +100,7 @@ impl<'a> Game<'a> {
         requires cards { in_deck self.now.table.deck hand.now ≡ true }
         ensures { result ≡ map (value self.now.table self.now.coin hand.now) masks }
     {
-        let mut reads = Reads::new(&self.sums);
-        let mut values = all_totals(&mut reads, &hand.numbers());
-        for mask in 0..32usize {
-            values[mask] *= self.scales[mask];
-        }
-        values
+        self.means.means(hand)
     }
 
     /// The best of the 32 holds of the hand.

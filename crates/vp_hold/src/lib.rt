@@ -2,11 +2,12 @@
 #![tactic(auto)]
 
 mod game;
+mod means;
 mod payments;
 mod scales;
 mod squares;
 
 pub use game::Game;
-pub use scales::hold_scales;
+pub use means::HoldMeans;
 pub use squares::Squares;
 pub use vp_draws::Best;

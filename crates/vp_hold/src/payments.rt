@@ -1,4 +1,4 @@
-//! The payments of all sets of five cards, written by rising index, and their sums.
+//! The payments of all sets of five cards, written by rising index, and their means.
 
 ghost use Rattle.std.specs.Prelude.{◌≡◌, ◌+◌, length, map, slice_index};
 ghost use Rattle.vp_pay.specs.Bets.{IsBet};
@@ -9,19 +9,19 @@ ghost use Rattle.vp_count.specs.Sums.{hand_numbers};
 ghost use Rattle.vp_count.specs.Table.{AreSumsOf, first_word};
 ghost use Rattle.vp_wild.specs.Payment.{pay};
 
+use crate::HoldMeans;
 use std::sync::ledger::Ledger;
-use vp_count::SumTable;
 use vp_pay::PayTable;
 use vp_sets::{choose, next_set};
 use vp_wild::{KeptPayments, Steps};
 
-/// The sums of the payments of all hands of the deck, made in `words`. One step of the counter for each hand.
-pub(crate) fn payment_sums<'a, L: Ledger>(
+/// The means of the payments of all hands of the deck, made in `words`. One step of the counter for each hand.
+pub(crate) fn payment_means<'a, L: Ledger>(
     table: &PayTable,
     coin: u8,
     words: &'a mut [u64],
     steps: &mut Steps<L>,
-) -> SumTable<'a>
+) -> HoldMeans<'a>
     requires bet { IsBet table.now coin }
     requires long { length words.old ≡ first_word table.now.deck 6 }
     ensures sums { AreSumsOf table.now.deck (pay table.now coin) result }
@@ -30,7 +30,7 @@ pub(crate) fn payment_sums<'a, L: Ledger>(
     let hands = choose(table.deck, 5) as usize;
     let first = words.len() - hands;
     write_payments(table, coin, &mut words[first..], steps);
-    SumTable::fill(table.deck, words)
+    HoldMeans::fill(table.deck, words)
 }
 
 /// Writes the payment of each set of five cards of the deck at the set's index. One step of the counter for each.

@@ -1,7 +1,7 @@
 pub mod Pieces
 pub mod Tallies
 pub mod Metered
-pub mod TwoTables
+pub mod TwoMeans
 pub mod Segments
 pub mod LinesOfHolds
 pub mod Spelling

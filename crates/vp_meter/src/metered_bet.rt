@@ -1,12 +1,10 @@
 //! A bet whose pay table may change in the payment of one line.
 
-ghost use Rattle.std.specs.Prelude.{◌≡◌, ℕ, ◌+◌, ◌-◌, ◌*◌, ◌^◌, ◌≤◌, ◌<◌, length, slice_index, [], true};
-ghost use Rattle.vp_card.specs.Cards.{IsHand, in_deck};
-ghost use Rattle.vp_count.specs.Sums.{spread};
+ghost use Rattle.std.specs.Prelude.{◌≡◌, ℕ, ◌+◌, ◌-◌, ◌*◌, ◌≤◌, ◌<◌, length, true};
+ghost use Rattle.vp_card.specs.Cards.{in_deck};
 ghost use Rattle.vp_count.specs.Table.{first_word};
 ghost use Rattle.vp_draws.specs.Draws.{value};
 ghost use Rattle.vp_meter.specs.Metered.{IsMetering, at_payment, line_name};
-ghost use Rattle.vp_meter.specs.TwoTables.{scaled_sum};
 ghost use Rattle.vp_meter.specs.LinesOfHolds.{AreLines};
 ghost use Rattle.vp_meter.specs.Segments.{worth};
 ghost use Rattle.vp_pay.specs.Bets.{IsBet};
@@ -17,37 +15,35 @@ use crate::writing::write_parts;
 use std::marker::{Brand, Model};
 use std::sync::ledger::{Blank, Ledger};
 use vp_card::Hand;
-use vp_count::{Reads, SumTable, all_totals, held_total};
-use vp_hold::hold_scales;
+use vp_hold::HoldMeans;
 use vp_pay::PayTable;
 use vp_sets::choose;
 use vp_wild::Steps;
 
-/// A bet, a line of its pay table, and two tables of sums: of what the other lines pay, and of how many hands this line
+/// A bet, a line of its pay table, and two tables of means: of what the other lines pay, and of how often this line
 /// pays. From them comes the value of each hold at every payment of that line.
 #[derive(Drop)]
 pub struct Metered<'a> {
     table: &'a PayTable,
     coin: u8,
     place: u8,
-    scales: [u64; 32],
-    base: SumTable<'a>,
-    hits: SumTable<'a>,
+    base: HoldMeans<'a>,
+    hits: HoldMeans<'a>,
 }
 
 impl<'a> Model for Metered<'a> {
     ghost use Rattle.vp_meter.specs.Metered.{Metering};
-    ghost use Rattle.vp_meter.specs.TwoTables.{IsMetered};
+    ghost use Rattle.vp_meter.specs.TwoMeans.{IsMetered};
 
     ghost Value = { Metering };
 
     ghost view = { λ m. record { table = m.table.now; coin = m.coin; place = m.place } };
 
-    ghost invariant = { λ m. IsMetered (record { table = m.table.now; coin = m.coin; place = m.place }) m.scales m.base m.hits };
+    ghost invariant = { λ m. IsMetered (record { table = m.table.now; coin = m.coin; place = m.place }) m.base m.hits };
 }
 
 impl<'a> Metered<'a> {
-    /// Ranks every hand of the deck once, and makes both tables of sums in `base` and `hits`, which may hold any numbers.
+    /// Ranks every hand of the deck once, and makes both tables in `base` and `hits`, which may hold any numbers.
     /// `line` is the place of the line, from 0. One step of the counter for each hand.
     pub fn fill<L: Ledger>(
         table: &'a PayTable,
@@ -75,9 +71,8 @@ impl<'a> Metered<'a> {
             table,
             coin,
             place: line,
-            scales: hold_scales(table.deck),
-            base: SumTable::fill(table.deck, base),
-            hits: SumTable::fill(table.deck, hits),
+            base: HoldMeans::fill(table.deck, base),
+            hits: HoldMeans::fill(table.deck, hits),
         }
     }
 
@@ -134,50 +129,19 @@ impl<'a> Metered<'a> {
         ensures value { (x : ℕ)
             → value (at_payment self.now x) self.now.coin hand.now mask ≡ result.0 + x * result.1 }
     {
-        let factor = self.scales[mask as usize];
-        let base = total_in(&self.base, hand, mask);
-        let hits = total_in(&self.hits, hand, mask);
-        (base * factor, hits * factor)
+        (self.base.mean(hand, mask), self.hits.mean(hand, mask))
     }
 
-    /// The lines of all 32 holds of a hand; the totals of each table are taken at once.
+    /// The lines of all 32 holds of a hand; the means of each table are taken at once.
     pub(crate) fn lines(&self, hand: &Hand) -> HoldLines
         requires { in_deck self.now.table.deck hand.now ≡ true }
         ensures { AreLines (worth self.now hand.now) result }
     {
         HoldLines {
-            bases: values_in(&self.base, &self.scales, hand),
-            slopes: values_in(&self.hits, &self.scales, hand),
+            bases: self.base.means(hand),
+            slopes: self.hits.means(hand),
         }
     }
-}
-
-/// The totals of all holds in a table of sums, each times its scale.
-fn values_in(sums: &SumTable, scales: &[u64; 32], hand: &Hand) -> [u64; 32]
-    requires cards { in_deck sums.now.size hand.now ≡ true }
-    requires small { IsHand hand.now → (mask : ℕ) → mask < 32
-        → scaled_sum sums.now scales.now hand.now mask < 2 ^ 64 }
-    ensures values { (mask : ℕ) → mask < 32
-        → slice_index result mask ≡ scaled_sum sums.now scales.now hand.now mask }
-    ensures hand { IsHand hand.now }
-{
-    let mut reads = Reads::new(&*sums);
-    let mut values = all_totals(&mut reads, &hand.numbers());
-    for mask in 0..32usize {
-        values[mask] *= scales[mask];
-    }
-    values
-}
-
-/// The sum of the numbers of the final hands of all draws of a hold.
-fn total_in(sums: &SumTable, hand: &Hand, mask: u8) -> u64
-    requires cards { in_deck sums.now.size hand.now ≡ true }
-    requires mask { mask < 32 }
-    ensures total { result ≡ spread sums.now.size sums.now.numbers hand.now mask }
-    ensures hand { IsHand hand.now }
-{
-    let mut reads = Reads::new(&*sums);
-    held_total(&mut reads, &hand.numbers(), mask)
 }
 
 /// The metered bet; the blank is for a counter that nobody reads.

@@ -10,19 +10,9 @@ use Rattle.vp_sets.proofs.Denominators.{common_small}
 use Rattle.vp_draws.specs.Draws.{sum_of_best}
 use Rattle.vp_draws.proofs.Bounds.{sum_of_best_fits}
 use Rattle.vp_suit.specs.Laws.{deals}
+use Rattle.vp_multi.specs.Room.{HasRoom}
 use Rattle.vp_multi.specs.Sums.{ArePowerSums, printed_square, squared_value, mean_sum, second_sum, within_sum, between_sum}
 use Rattle.vp_multi.proofs.DeckSums.{mean_is, second_is, within_is, between_fits, they_fit}
-
--- each step from the sums over all deals to the moments of k hands fits 128 bits
-pub record MomentRoom (a s q l n k : ℕ) : Type 0 where
-  pub paid : s * l < 2 ^ 107
-  pub mean : k * a < 2 ^ 71
-  pub first : k * (s * l) < 2 ^ 114
-  pub pairs : k * (k - 1) * q < 2 ^ 120
-  pub products : n * q < 2 ^ 128
-  pub square : a * a < 2 ^ 128
-  pub within : q ≤ s * l
-  pub between : a * a ≤ n * q
 
 paid_fits : (s l : ℕ) → s < 2 ^ 83 → l ≤ 8561520 → s * l < 2 ^ 107
 paid_fits s l h small =
@@ -44,7 +34,7 @@ square_fits a h =
     let x : a * a ≤ 18446744073709551615 * a = mul-le-mul_right a (omega arith) in
     omega arith
 
-room_of : (a s q l n k w : ℕ) → a < 2 ^ 64 → s < 2 ^ 83 → q < 2 ^ 106 → n * q < 2 ^ 128 → l ≤ 8561520 → k ≤ 100 → w + q ≡ s * l → a * a ≤ n * q → MomentRoom a s q l n k
+room_of : (a s q l n k w : ℕ) → a < 2 ^ 64 → s < 2 ^ 83 → q < 2 ^ 106 → n * q < 2 ^ 128 → l ≤ 8561520 → k ≤ 100 → w + q ≡ s * l → a * a ≤ n * q → HasRoom a s q l n k
 room_of a s q l n k w a_fits s_fits q_fits nq_fits l_small few within between =
     let paid : s * l < 2 ^ 107 = paid_fits s l s_fits l_small in
     record {
@@ -58,8 +48,8 @@ room_of a s q l n k w a_fits s_fits q_fits nq_fits l_small few within between =
       between = between;
     }
 
-pub moment_room : (table : PayTable) (coin a s q l n k : ℕ) → IsTable table → k ≤ 100 → ArePowerSums table coin a s q → l ≡ common table.deck → n ≡ choose table.deck 5 → MomentRoom a s q l n k
-moment_room table coin a s q l n k t few sums is_l is_n =
+pub has_room : (table : PayTable) (coin a s q l n k : ℕ) → IsTable table → k ≤ 100 → ArePowerSums table coin a s q → l ≡ common table.deck → n ≡ choose table.deck 5 → HasRoom a s q l n k
+has_room table coin a s q l n k t few sums is_l is_n =
     let fit = they_fit table coin t in
     rw (sums.values, sums.squares, sums.squared_values, is_l, is_n)
     (room_of (sum_of_best table coin) (sum_by (printed_square table coin) (deals table.deck)) (sum_by (squared_value table coin) (deals table.deck)) (common table.deck) (choose table.deck 5) k (within_sum table coin)

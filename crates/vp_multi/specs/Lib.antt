@@ -1,3 +1,4 @@
 pub mod Moments
 pub mod Sums
 pub mod Laws
+pub mod Room

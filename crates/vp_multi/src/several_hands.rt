@@ -1,7 +1,8 @@
 //! The moments of several hands, summed over all deals class by class.
 
-ghost use Rattle.std.specs.Prelude.{◌≡◌, ◌≤◌};
+ghost use Rattle.std.specs.Prelude.{◌≡◌, ◌+◌, ◌-◌, ◌*◌, ◌≤◌};
 ghost use Rattle.vp_sets.specs.Sets.{choose};
+ghost use Rattle.vp_multi.specs.Room.{HasRoom};
 ghost use Rattle.vp_multi.specs.Sums.{ArePowerSums, mean_sum, second_sum, within_sum, between_sum};
 
 use vp_hold::{Game, Squares};
@@ -44,8 +45,20 @@ pub fn moments(game: &Game, squares: &Squares, hands: u8) -> MomentSums
     let deck = game.table().deck;
     let sums = power_sums(game, squares);
     let deals = u128::from(choose(deck, 5));
-    let hands = u128::from(hands);
-    let paid = sums.squares * u128::from(common(deck));
+    numerators(sums, u128::from(common(deck)), deals, u128::from(hands))
+}
+
+/// The numerators out of the sums over all deals; `common` is the common denominator of the deck.
+fn numerators(sums: PowerSums, common: u128, deals: u128, hands: u128) -> MomentSums
+    requires some { 1 ≤ hands }
+    requires room { HasRoom sums.values sums.squares sums.squared_values common deals hands }
+    ensures mean { result.mean ≡ hands * sums.values }
+    ensures second { result.second
+        ≡ hands * (sums.squares * common) + hands * (hands - 1) * sums.squared_values }
+    ensures within { result.within ≡ sums.squares * common - sums.squared_values }
+    ensures between { result.between ≡ deals * sums.squared_values - sums.values * sums.values }
+{
+    let paid = sums.squares * common;
     MomentSums {
         mean: hands * sums.values,
         second: hands * paid + hands * (hands - 1) * sums.squared_values,

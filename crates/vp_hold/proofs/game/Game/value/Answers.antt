@@ -1,17 +1,9 @@
-use Rattle.std.proofs.Common.{get_or, arith}
-use Rattle.vp_hold.proofs.Values.{Scaled, scaled, told}
+use Rattle.std.proofs.Common.{◌∙◌}
+use Rattle.vp_hold.proofs.Values.{in_game, value_told}
 use Rattle.vp_hold.proofs.game.Game.value.Goals as goal
 
-pub overflow_mul-result : goal.overflow_mul-result
-overflow_mul-result c =
-    let hold : Scaled c.args.self.now c.args.hand.now c.args.mask c.held_total-total.result (get_or c.self.inside.scales c.args.mask 0) =
-    scaled _ _ _ _ _ _ _ _ c.self.view_is c.self.invariant c.numbers.ensures.hand c.requires.cards c.requires.mask
-    (told _ _ _ _ _ _ _ _ _ _ _ c.self.view_is c.self.invariant c.numbers.ensures.hand c.requires.cards c.numbers.ensures.value c.new-reads.ensures.size c.new-reads.ensures.numbers c.held_total-total.ensures.total) in
-    omega (arith, hold.fits)
+pub mean-requires-clause-cards : goal.mean-requires-clause-cards
+mean-requires-clause-cards c = in_game _ _ _ _ _ c.self.view_is c.self.invariant c.requires.cards
 
 pub returns : goal.returns
-returns c =
-    let hold : Scaled c.args.self.now c.args.hand.now c.args.mask c.held_total-total.result (get_or c.self.inside.scales c.args.mask 0) =
-    scaled _ _ _ _ _ _ _ _ c.self.view_is c.self.invariant c.numbers.ensures.hand c.requires.cards c.requires.mask
-    (told _ _ _ _ _ _ _ _ _ _ _ c.self.view_is c.self.invariant c.numbers.ensures.hand c.requires.cards c.numbers.ensures.value c.new-reads.ensures.size c.new-reads.ensures.numbers c.held_total-total.ensures.total) in
-    hold.value
+returns c = c.mean.ensures.mean ∙ value_told _ _ _ _ _ _ c.self.view_is c.self.invariant c.mean.ensures.hand c.requires.cards

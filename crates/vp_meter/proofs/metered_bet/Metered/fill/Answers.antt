@@ -19,6 +19,12 @@ write_parts-requires-clause-also g c =
     let long = words_before c.args.table.now.deck c.choose-hands.result c.args.base.now c.requires.long c.choose-hands.ensures in
     grind (arith, length-take, length-drop, c.choose-hands.ensures)
 
+pub fill-requires-clause-deck : goal.fill-requires-clause-deck
+fill-requires-clause-deck g c = c.requires.bet.rules.known_deck
+
+pub fill-requires-2-clause-deck : goal.fill-requires-2-clause-deck
+fill-requires-2-clause-deck g c = c.requires.bet.rules.known_deck
+
 pub fill-requires-clause-bounded : goal.fill-requires-clause-bounded
 fill-requires-clause-bounded g c =
     written_small c.args.table.now.deck c.choose-hands.result c.args.base.now c.write_parts.new.base (base_pay c.args.table.now c.args.coin c.args.line) c.requires.long c.choose-hands.ensures c.write_parts.ensures.base (λ hand. base_small c.args.table.now c.args.coin c.args.line hand c.requires.bet.rules)
@@ -33,7 +39,6 @@ invariant_of-result g c =
     let same : length c.args.hits.now ≡ length c.args.base.now = c.requires.also ∙ sym c.requires.long in
     record {
       metering = record { bet = c.requires.bet; inside = c.requires.inside };
-      scaled = c.hold_scales.ensures;
       base = record {
         size = c.fill.ensures.size;
         numbers = c.fill.ensures.numbers ∙ (five_written c.args.table.now.deck c.choose-hands.result c.args.base.now c.write_parts.new.base c.requires.long c.choose-hands.ensures ∙ c.write_parts.ensures.base);

@@ -2,7 +2,7 @@ use Rattle.std.proofs.Common.{◌≡◌, ◌+◌, length, ◌∙◌, arith, leng
 use Rattle.vp_count.specs.Table.{first_word}
 use Rattle.vp_count.proofs.HandNumbers.{words_before, five_written}
 use Rattle.vp_hold.proofs.SquaredPayments.{squares_small}
-use Rattle.vp_hold.proofs.squares.square_sums.Goals as goal
+use Rattle.vp_hold.proofs.squares.square_means.Goals as goal
 
 pub overflow_sub-first : goal.overflow_sub-first
 overflow_sub-first c = omega (arith, words_before c.args.n (length c.args.payments.now) c.args.words.now c.requires.long c.requires.many)
