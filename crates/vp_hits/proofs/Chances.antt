@@ -25,7 +25,7 @@ use Rattle.vp_wild.specs.Payment.{hits as line_matches}
 use Rattle.vp_count.specs.Sums.{hand_numbers}
 use Rattle.vp_count.specs.Table.{AreSumsOf, Table}
 use Rattle.vp_hold.specs.Means.{mean}
-use Rattle.vp_hold.proofs.Means.{mean_of, of_sums}
+use Rattle.vp_hold.proofs.ScaledSums.{mean_of, of_sums}
 use Rattle.vp_hits.specs.Hits.{AreHits, Asked, chance, hit, hits, is_asked, mark}
 use Rattle.vp_hits.specs.Numbers.{AreNumbers, AreTwoHits, AskedTwo, place_among, told, two_hits, two_marks}
 

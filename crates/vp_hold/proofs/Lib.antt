@@ -1,4 +1,4 @@
 pub mod ByMask
-pub mod Means
+pub mod ScaledSums
 pub mod Values
 pub mod SquaredPayments

@@ -19,7 +19,7 @@ use Rattle.vp_count.specs.Table.{Table, five_numbers, first_word}
 use Rattle.vp_count.proofs.HandNumbers.{five_written, numbers_small}
 use Rattle.vp_hold.specs.Games.{AreSquares}
 use Rattle.vp_hold.specs.Means.{mean}
-use Rattle.vp_hold.proofs.Means.{mean_of, of_sums}
+use Rattle.vp_hold.proofs.ScaledSums.{mean_of, of_sums}
 
 pub square_le : (p : ℕ) → p ≤ 500000 → p * p ≤ 250000000000
 square_le p l =

@@ -12,7 +12,7 @@ use Rattle.vp_draws.specs.Draws.{masks, total, value}
 use Rattle.vp_count.specs.Table.{Table}
 use Rattle.vp_hold.specs.Games.{IsGame}
 use Rattle.vp_hold.specs.Means.{mean}
-use Rattle.vp_hold.proofs.Means.{mean_of, of_sums}
+use Rattle.vp_hold.proofs.ScaledSums.{mean_of, of_sums}
 
 of_bet : (bet : Bet) (table : PayTable) (coin : ℕ) (sums : Table) → record { table = table; coin = coin } ≡ bet → IsGame table coin sums → IsGame bet.table bet.coin sums
 of_bet bet table coin sums e g = subst (λ (t : Bet). IsGame t.table t.coin sums) e g

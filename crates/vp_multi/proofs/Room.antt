@@ -22,11 +22,14 @@ paid_fits s l h small =
 times_hands : (k x : ℕ) → k ≤ 100 → k * x ≤ 100 * x
 times_hands k x h = mul-le-mul_right x h
 
+orders_fit : (k : ℕ) → k ≤ 100 → k * (k - 1) ≤ 9900
+orders_fit k h =
+    let x : k * (k - 1) ≤ 100 * (k - 1) = mul-le-mul_right (k - 1) h in
+    omega arith
+
 pairs_fit : (k q : ℕ) → k ≤ 100 → q < 2 ^ 106 → k * (k - 1) * q < 2 ^ 120
 pairs_fit k q h small =
-    let x : k * (k - 1) ≤ 100 * (k - 1) = mul-le-mul_right (k - 1) h in
-    let few : k * (k - 1) ≤ 9900 = omega arith in
-    let y : k * (k - 1) * q ≤ 9900 * q = mul-le-mul_right q few in
+    let y : k * (k - 1) * q ≤ 9900 * q = mul-le-mul_right q (orders_fit k h) in
     omega arith
 
 square_fits : (a : ℕ) → a < 2 ^ 64 → a * a < 2 ^ 128
@@ -41,6 +44,7 @@ room_of a s q l n k w a_fits s_fits q_fits nq_fits l_small few within between =
       paid = paid;
       mean = omega (arith, times_hands k a few);
       first = omega (arith, times_hands k (s * l) few);
+      orders = orders_fit k few;
       pairs = pairs_fit k q few q_fits;
       products = nq_fits;
       square = square_fits a a_fits;

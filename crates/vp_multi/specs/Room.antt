@@ -6,6 +6,7 @@ pub record HasRoom (a s q l n k : ℕ) : Type 0 where
   pub paid : s * l < 2 ^ 107
   pub mean : k * a < 2 ^ 71
   pub first : k * (s * l) < 2 ^ 114
+  pub orders : k * (k - 1) ≤ 9900
   pub pairs : k * (k - 1) * q < 2 ^ 120
   pub products : n * q < 2 ^ 128
   pub square : a * a < 2 ^ 128

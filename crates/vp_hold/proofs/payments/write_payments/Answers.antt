@@ -1,7 +1,5 @@
-use Rattle.std.proofs.Common.{◌≡◌, ◌+◌, ◌≤◌, ◌<◌, ◌-◌, ◌∙◌, ap, subst, arith, ℕ, List, map, length, get_or}
+use Rattle.std.proofs.Common.{◌≡◌, ◌+◌, ◌-◌, ◌∙◌, ap, subst, arith, map, get_or}
 use Rattle.vp_pay.specs.declared.table.PayTable.{PayTable}
-use Rattle.vp_sets.specs.Sets.{choose}
-use Rattle.vp_sets.specs.Index.{HasIndex}
 use Rattle.vp_sets.proofs.Pascal.{choose_five}
 use borrow.Rule.Slice.PartMut.{put_mid}
 use Rattle.vp_count.proofs.Scan.{set_wider}

@@ -1,4 +1,4 @@
-use Rattle.std.proofs.Common.{◌≡◌, ◌∷◌, [], ℕ, List, get_or, ◌∙◌, ap, subst, sym, arith, refl}
+use Rattle.std.proofs.Common.{◌≡◌, ◌∷◌, ℕ, List, ◌∙◌, ap, subst, sym, arith, refl}
 use Rattle.vp_sets.specs.Index.{IsSet}
 use Rattle.vp_wild.specs.Kept.{Bet}
 use Rattle.vp_wild.specs.Payment.{pay}

@@ -10,6 +10,9 @@ overflow_mul-result c = omega (arith, c.requires.room.mean)
 pub overflow_mul-result-2 : goal.overflow_mul-result-2
 overflow_mul-result-2 c = omega (arith, c.requires.room.first)
 
+pub overflow_mul-result-3 : goal.overflow_mul-result-3
+overflow_mul-result-3 c = omega (arith, c.requires.room.orders)
+
 pub overflow_mul-result-4 : goal.overflow_mul-result-4
 overflow_mul-result-4 c = omega (arith, c.requires.room.pairs)
 

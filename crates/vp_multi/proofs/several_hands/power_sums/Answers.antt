@@ -3,7 +3,7 @@ use Rattle.vp_card.specs.Cards.{in_deck}
 use Rattle.vp_pay.specs.declared.table.PayTable.{PayTable}
 use Rattle.vp_wild.specs.Kept.{Bet}
 use Rattle.vp_suit.specs.Classes.{representatives, weight}
-use Rattle.vp_draws.specs.Draws.{best, least_best, value2}
+use Rattle.vp_draws.specs.Draws.{best, value2}
 use Rattle.vp_multi.specs.Sums.{printed_square, squared_value}
 use Rattle.vp_suit.proofs.Weighed.{weighed_is}
 use Rattle.vp_multi.proofs.ByClasses.{powers_none, powers_hand, powers_square, powers_more, values_fit, squares_fit, squared_fit, powers_all, squared_weighed}

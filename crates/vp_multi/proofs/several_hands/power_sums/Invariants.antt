@@ -1,5 +1,5 @@
 -- The classes so far were added up.
-use Rattle.std.proofs.Common.{◌≡◌, length}
+use Rattle.std.proofs.Common.{length}
 use Rattle.vp_multi.proofs.ByClasses.{PowersAdded}
 use Rattle.vp_multi.proofs.several_hands.power_sums.Given as goal
 

@@ -3,7 +3,7 @@ use Rattle.vp_hits.proofs.Chances.{in_two, told_two}
 use Rattle.vp_hits.proofs.pair_hits.PairHits.weights.Goals as goal
 
 pub means-requires : goal.means-requires
-means-requires c = in_two _ _ _ _ c.self.view_is c.self.invariant c.requires.cards
+means-requires c = record { cards = in_two _ _ _ _ c.self.view_is c.self.invariant c.requires.cards }
 
 pub returns-clause-first : goal.returns-clause-first
 returns-clause-first c =

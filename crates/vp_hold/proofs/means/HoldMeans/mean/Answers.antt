@@ -1,5 +1,5 @@
 use Rattle.std.proofs.Common.{get_or, arith}
-use Rattle.vp_hold.proofs.Means.{Scaled, scaled, total_is}
+use Rattle.vp_hold.proofs.ScaledSums.{Scaled, scaled, total_is}
 use Rattle.vp_hold.proofs.means.HoldMeans.mean.Goals as goal
 
 pub overflow_mul-result : goal.overflow_mul-result

@@ -1,5 +1,5 @@
 use Rattle.std.proofs.Common.{rules, get_or, arith}
-use Rattle.vp_hold.proofs.Means.{Scaled, scaled, total_is}
+use Rattle.vp_hold.proofs.ScaledSums.{Scaled, scaled, total_is}
 use Rattle.vp_hold.proofs.Values.{values_more, values_are}
 use Rattle.vp_hold.proofs.means.HoldMeans.means.Goals as goal
 
