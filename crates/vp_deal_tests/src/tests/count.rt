@@ -26,24 +26,31 @@ fn levels_of_a_deck(rt: HostRuntime) -> Result<(), Fail> {
 // Seven cards, and the number 1 for each set of five but 0 1 2 5 6, which has the index 11 and the number 5.
 #[test]
 fn sums_of_a_small_deck(rt: HostRuntime) {
-    assert_eq!(rt; table_words(7), 120);
-    assert_eq!(rt; table_words(52), 2893164);
-    assert_eq!(rt; table_words(53), 3187368);
-    assert_eq!(rt; table_words(54), 3505051);
+    assert_eq!(rt;
+        [
+            table_words(7),
+            table_words(52),
+            table_words(53),
+            table_words(54)
+        ],
+        [120, 2893164, 3187368, 3505051]
+    );
     let mut words = [1; 120];
     words[99 + 11] = 5;
     let table = SumTable::fill(7, &mut words);
-    assert_eq!(rt; table.at(&[]), 25);
-    assert_eq!(rt; table.at(&[5]), 19);
-    assert_eq!(rt; table.at(&[0, 1, 2, 5, 6]), 5);
+    assert_eq!(rt;
+        [table.at(&[]), table.at(&[5]), table.at(&[0, 1, 2, 5, 6])],
+        [25, 19, 5]
+    );
     let mut reads = Reads::new(&table);
     let hand = [0, 1, 2, 3, 4];
-    assert_eq!(rt; held_total(&mut reads, &hand, 7), 5);
-    assert_eq!(rt; held_total(&mut reads, &hand, 15), 2);
-    assert_eq!(rt; held_total(&mut reads, &hand, 0), 0);
+    let few = held_total(&mut reads, &hand, 7);
+    let fewer = held_total(&mut reads, &hand, 15);
+    let none = held_total(&mut reads, &hand, 0);
     let totals = all_totals(&mut reads, &hand);
-    assert_eq!(rt; totals[7], 5);
-    assert_eq!(rt; totals[15], 2);
-    assert_eq!(rt; totals[31], 1);
-    assert_eq!(rt; totals[0], 0);
+    assert_eq!(rt; [few, fewer, none], [5, 2, 0]);
+    assert_eq!(rt;
+        [totals[7], totals[15], totals[31], totals[0]],
+        [5, 2, 1, 0]
+    );
 }

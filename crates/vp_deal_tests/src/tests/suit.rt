@@ -68,10 +68,17 @@ fn turns_hands(rt: HostRuntime) -> Result<(), Fail> {
     ] {
         let hand = hand_of(numbers).ok_or("hand")?;
         let (image, least_turn) = least_image(&hand);
-        assert_eq!(rt; image.numbers(), least, "{numbers:?}");
-        assert_eq!(rt; least_turn.number(), number, "{numbers:?}");
-        assert_eq!(rt; turn(least_turn, &hand).numbers(), least, "{numbers:?}");
-        assert_eq!(rt; weight(&hand), images, "{numbers:?}");
+        let turned = turn(least_turn, &hand);
+        assert_eq!(rt;
+            [image.numbers(), turned.numbers()],
+            [least, least],
+            "{numbers:?}"
+        );
+        assert_eq!(rt;
+            (least_turn.number(), weight(&hand)),
+            (number, images),
+            "{numbers:?}"
+        );
         assert_eq!(rt; is_representative(&hand), number == 0, "{numbers:?}");
         assert!(rt; is_representative(&image), "{numbers:?}");
     }

@@ -92,7 +92,7 @@ fn cards_of(texts: [&[u8]; 5]) -> Option<[Card; 5]> {
 }
 
 #[test]
-fn hands_and_decks(rt: HostRuntime) -> Result<(), Fail> {
+fn hands_of_cards(rt: HostRuntime) -> Result<(), Fail> {
     let hands: [([&[u8]; 5], [u8; 5], bool); 3] = [
         (
             [b"4s", b"Ts", b"Qs", b"Ks", b"As"],
@@ -124,6 +124,11 @@ fn hands_and_decks(rt: HostRuntime) -> Result<(), Fail> {
         assert_eq!(rt; two, Some([first, last]), "not {second}");
         assert!(rt; hand.is_of_deck(last + 1) && !hand.is_of_deck(last));
     }
+    Ok(())
+}
+
+#[test]
+fn cards_that_stand_twice(rt: HostRuntime) -> Result<(), Fail> {
     let twice: [[&[u8]; 5]; 3] = [
         [b"2c", b"3c", b"4c", b"5c", b"5c"],
         [b"As", b"Ks", b"4s", b"As", b"Qs"],
@@ -133,6 +138,11 @@ fn hands_and_decks(rt: HostRuntime) -> Result<(), Fail> {
         let cards = cards_of(texts).ok_or("five cards")?;
         assert!(rt; Hand::of(cards).is_none());
     }
+    Ok(())
+}
+
+#[test]
+fn decks_with_jokers(rt: HostRuntime) -> Result<(), Fail> {
     let jokers = cards_of([b"2c", b"3c", b"As", b"Jo", b"Jk"]).ok_or("five cards")?;
     for (deck, is_one, both) in [
         (0, false, false),
