@@ -1,3 +1,3 @@
-pub mod Inputs
 pub mod Ends
 pub mod Closing
+pub mod SomeAnswers

@@ -5,6 +5,8 @@ use Rattle.vp_text.specs.Lines.{Word}
 use Rattle.vp_text.specs.Written.{line_of}
 use Rattle.vp_answer.specs.declared.rule.Rule.{Rule}
 use Rattle.vp_answer.specs.declared.rule.Rule.TheVariants.{Order, Weight, Value, Mask, Cover, Sum, Denominator, Bet, Funds, Deal, Hold, Count, Draw, Pay, Credits}
+use Rattle.vp_answer.specs.declared.ending.Ending.{Ending}
+use Rattle.vp_answer.specs.declared.ending.Ending.TheVariants as ending
 use Rattle.vp_answer.specs.declared.status.Status.{Status}
 use Rattle.vp_answer.specs.declared.status.Status.TheVariants.{Done, Finding, Refused}
 use Rattle.vp_answer.specs.declared.stop.Stop.{Stop}
@@ -14,6 +16,21 @@ use Rattle.vp_answer.specs.declared.stop.Stop.TheVariants.{Finding as Found, Rec
 pub record Answer : Type 0 where
   pub status : Status
   pub text : List ℕ
+
+-- the status of an ending
+abbrev pub status_of : Ending → Status
+status_of ending.Done = Done
+status_of ending.Finding = Finding
+status_of ending.Refused = Refused
+
+-- how a job ends, and its text
+pub record Said : Type 0 where
+  pub ending : Ending
+  pub text : List ℕ
+
+-- the answer that is said so
+abbrev pub answer_of : Said → Answer
+answer_of said = record { status = status_of said.ending; text = said.text }
 
 -- the answer that is a text
 abbrev pub done : List ℕ → Answer

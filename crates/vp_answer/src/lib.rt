@@ -3,6 +3,7 @@
 #![tactic(auto)]
 
 mod blocks;
+mod ending;
 mod endings;
 mod laws;
 mod rule;
@@ -11,9 +12,10 @@ mod stop;
 mod work;
 
 pub use blocks::close;
-pub use endings::{put_read, words_of_read, write_read};
-pub use laws::{hands_are_read, served_without_fault, tables_are_read};
+pub use ending::Ending;
+pub use endings::{is_alone, words_of_read, write_lent, write_read};
+pub use laws::{answers_say_something, served_without_fault};
 pub use rule::Rule;
 pub use status::Status;
 pub use stop::Stop;
-pub use work::Work;
+pub use work::{HeapWork, Job, Work};

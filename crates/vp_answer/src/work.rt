@@ -1,41 +1,59 @@
-//! What is left to do once an input is read.
+//! What is left to do once an input is read: a job.
 
 use crate::Status;
 use std::alloc::Global;
 use vp_io::{Sink, WriteFault};
-use vp_region::Region;
 
-/// An answer that is written over an open region.
+/// A job that takes no memory but the words that it is lent. It has no answer but its text.
 pub trait Work {
-    ghost use Rattle.std.specs.Prelude.{◌≡◌, ◌≤◌, ℕ, Bool, true, false};
+    ghost use Rattle.std.specs.Prelude.{◌≡◌, ◌≤◌, ◌<◌, length};
     ghost use Rattle.vp_io.specs.Puts.{Puts};
-    ghost use Rattle.vp_answer.specs.Answers.{Answer};
+    ghost use Rattle.vp_answer.specs.Jobs.{Due};
+
+    /// How many words of 64 bits it takes, and its text.
+    ghost due: { Self → Due };
+
+    /// It says something.
+    ghost some_text: { (work : Self) → 0 < length (due work).text };
+
+    /// How many words of 64 bits it takes.
+    fn words(&self) -> usize
+        ensures { result ≡ (due self.now).words };
+
+    /// Puts its text. The words that are lent may hold any numbers.
+    fn put<K: Sink>(&self, memory: &mut [u64], sink: &mut K) -> Result<(), WriteFault>
+        requires { (due self.now).words ≤ length memory.old }
+        ensures { Puts (K.told sink.old) (K.told sink.new) result (due self.now).text };
+}
+
+/// A job that takes memory of its own beside the words that it is lent, and asks for it before it puts anything.
+pub trait HeapWork {
+    ghost use Rattle.std.specs.Prelude.{◌≡◌, ◌≤◌, ◌<◌, length};
+    ghost use Rattle.vp_answer.specs.Answers.{answer_of};
+    ghost use Rattle.vp_answer.specs.Jobs.{DueOf};
     ghost use Rattle.vp_answer.specs.Outcome.{Served};
 
-    /// How many words of 64 bits it needs.
-    ghost room: { Self → ℕ };
+    /// How many words of 64 bits it is to be lent, how it ends, and its text.
+    ghost due: { Self → DueOf };
 
-    /// It needs no memory beside these words.
-    ghost alone: { Self → Bool };
+    /// It says something.
+    ghost some_text: { (work : Self) → 0 < length (due work).said.text };
 
-    /// Its status and its text.
-    ghost answer: { Self → Answer };
-
+    /// How many words of 64 bits it is to be lent.
     fn words(&self) -> usize
-        ensures { result ≡ room self.now };
+        ensures { result ≡ (due self.now).words };
 
-    /// Puts its text, in the memory of the region alone.
-    fn put<K: Sink>(&self, region: &mut Region, sink: &mut K) -> Result<(), WriteFault>
-        requires room { room self.now ≤ region.old }
-        requires alone { alone self.now ≡ true }
-        ensures puts { Puts (K.told sink.old) (K.told sink.new) result (answer self.now).text }
-        ensures same { region.new ≡ region.old };
+    /// Writes its text, and gives its status. The words that are lent may hold any numbers.
+    fn write<K: Sink>(&self, alloc: Global, memory: &mut [u64], sink: &mut K) -> Status
+        requires { (due self.now).words ≤ length memory.old }
+        ensures { Served (answer_of (due self.now).said) (K.told sink.old) (K.told sink.new) result };
+}
 
-    /// Writes its text, and tells its status. It may ask for memory beside the region, before it puts anything, where it
-    /// needs some.
-    fn write<K: Sink>(&self, alloc: Global, region: &mut Region, sink: &mut K) -> Status
-        requires { room self.now ≤ region.old }
-        ensures served { Served (answer self.now) (K.told sink.old) (K.told sink.new) result }
-        ensures memory { result ≡ Status.NoMemory → alone self.now ≡ false }
-        ensures same { region.new ≡ region.old };
+/// What an input leaves to do.
+#[derive(Drop)]
+pub enum Job<W, H> {
+    /// In the words that are lent alone.
+    Lent(W),
+    /// With memory of its own beside them.
+    Heap(H),
 }

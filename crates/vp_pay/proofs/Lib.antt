@@ -8,3 +8,4 @@ pub mod Plain
 pub mod Tables
 pub mod Values
 pub mod LineWords
+pub mod Inputs

@@ -3,6 +3,11 @@ use Rattle.std.specs.Prelude.{ℕ, ◌≤◌}
 use Rattle.vp_pay.specs.Table.{IsTable}
 use Rattle.vp_pay.specs.declared.table.PayTable.{PayTable}
 
+-- a bet on a pay table
+pub record Bet : Type 0 where
+  pub table : PayTable
+  pub coin : ℕ
+
 -- a bet of at least one coin, that a valid pay table has a column for
 pub record IsBet (table : PayTable) (coin : ℕ) : Type 0 where
   pub rules : IsTable table

@@ -8,3 +8,5 @@ pub mod Spelling
 pub mod Table
 pub mod Bets
 pub mod Written
+pub mod Inputs
+pub mod Reads

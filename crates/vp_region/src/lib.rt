@@ -1,4 +1,4 @@
-//! One block of words, opened once and carved into disjoint slices of zeros.
+//! Words of memory that are lent, carved into disjoint slices, and one block of such words on the heap.
 #![tactic(auto)]
 
 ghost use Rattle.std.specs.Prelude.{◌≡◌, ◌+◌, ◌-◌, ◌<◌, ℕ, length, replicate, IfOk, IfSome, IfNone, IsNone, ◌↔◌};
@@ -23,7 +23,7 @@ impl Model for Region {
     ghost view = { λ r. length r.words.items };
 }
 
-/// What is left of a region while it is carved.
+/// What is left of the words that were lent, while they are carved.
 #[derive(Drop)]
 pub struct Carver<'a> {
     rest: &'a mut [u64],
@@ -47,6 +47,14 @@ impl Region {
         }
     }
 
+    /// The whole block, to be lent.
+    pub fn words(&mut self) -> &mut [u64]
+        ensures* back { sem 𝓛 (Lends the_row (Array word 0) self.entry result (λ _. self.old)) }
+        ensures size { length result.now ≡ self.old }
+    {
+        &mut self.words
+    }
+
     /// Starts over at the whole block; the loans of an earlier carving have ended.
     pub fn carve(&mut self) -> Carver<'_>
         ensures* back { sem 𝓛 (Lends the_row (Array word 0) self.entry result.rest (λ _. self.old)) }
@@ -59,6 +67,13 @@ impl Region {
 }
 
 impl<'a> Carver<'a> {
+    /// Carves all of these words, which may hold any numbers.
+    pub fn over(words: &'a mut [u64]) -> Carver<'a>
+        ensures { length result.rest.now ≡ length words.old }
+    {
+        Carver { rest: words }
+    }
+
     /// The words not yet handed out.
     pub fn rest(&self) -> usize
         ensures { result ≡ length self.now.rest.now }

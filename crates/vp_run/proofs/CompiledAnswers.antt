@@ -40,13 +40,13 @@ use Rattle.vp_audit.proofs.OrderLosses.{left_is, order_is}
 use Rattle.vp_answer.specs.Answers.{Answer, answer_read, done}
 use Rattle.vp_run.specs.Answer.{answer, compile_job, job_answer, read_as}
 use Rattle.vp_run.specs.Audit.{audit_input}
-use Rattle.vp_run.specs.Commands.{command_of}
+use Rattle.vp_command.specs.Commands.{command_of}
 use Rattle.vp_run.specs.Compile.{IsPooled, Pooled, compile_input, compile_lines, excepted, first_places, last_places, limit, matrix, printed_list, said_lines}
 use Rattle.vp_run.specs.Deal.{fraction, has_bet}
 use Rattle.vp_run.specs.PrintedLists.{CompiledListsAreAudited, CompiledListsLoseLittle, FewerAreTooFew, IsAudited, IsWithin, NoExchangeHelps}
-use Rattle.vp_run.specs.declared.command.Command.TheVariants.{Over}
-use Rattle.vp_run.specs.declared.command.Task.TheVariants.{Compile}
-use Rattle.vp_run.proofs.CommandWords.{in_range}
+use Rattle.vp_command.specs.declared.command.Command.TheVariants.{Over}
+use Rattle.vp_command.specs.declared.command.Task.TheVariants.{Compile}
+use Rattle.vp_command.proofs.CommandWords.{in_range}
 use Rattle.vp_run.proofs.CompiledPools.{fewest, last_whole, printed_loss, row_number, some_places}
 use Rattle.vp_run.proofs.FittingBets.{bet_fits}
 use Rattle.vp_run.proofs.NoCommand.{answer_as}

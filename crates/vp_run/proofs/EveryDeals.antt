@@ -19,14 +19,14 @@ use Rattle.vp_answer.specs.Answers.{Answer, answer_read, done}
 use Rattle.vp_run.specs.Answer.{answer, certify_job, check_read, job_answer, read_as}
 use Rattle.vp_run.specs.Certify.{certify_input}
 use Rattle.vp_run.specs.Deal.{has_bet}
-use Rattle.vp_run.specs.Commands.{command_of}
-use Rattle.vp_run.specs.declared.command.Command.TheVariants.{Over}
-use Rattle.vp_run.specs.declared.command.Task.TheVariants.{Certify, Check}
+use Rattle.vp_command.specs.Commands.{command_of}
+use Rattle.vp_command.specs.declared.command.Command.TheVariants.{Over}
+use Rattle.vp_command.specs.declared.command.Task.TheVariants.{Certify, Check}
 use Rattle.vp_answer.specs.declared.status.Status.TheVariants.{Done}
 use Rattle.vp_run.specs.EveryDeal.{CertificatesAreChecked, IsCheckedWell, CertificatesTellEveryDeal, ChecksTellEveryDeal, ChecksTellWalkedDeals}
-use Rattle.vp_answer.proofs.Inputs.{tables_read}
+use Rattle.vp_pay.proofs.Inputs.{tables_read}
 use Rattle.vp_run.proofs.CheckInputs.{judged}
-use Rattle.vp_run.proofs.CommandWords.{in_range}
+use Rattle.vp_command.proofs.CommandWords.{in_range}
 use Rattle.vp_run.proofs.FittingBets.{bet_fits}
 use Rattle.vp_run.proofs.NoCommand.{answer_as}
 

@@ -7,11 +7,11 @@ use Rattle.vp_answer.specs.Answers.{Answer}
 use Rattle.vp_run.specs.Answer.{answer, answer_to, needs_input}
 use Rattle.vp_run.specs.Arguments.{Ended}
 use Rattle.std.specs.Prelude.{option_map}
-use Rattle.vp_run.specs.Commands.{command_of, reads, task_of}
-use Rattle.vp_run.specs.declared.command.Command.TheVariants.{Over}
+use Rattle.vp_command.specs.Commands.{command_of, reads, task_of}
+use Rattle.vp_command.specs.declared.command.Command.TheVariants.{Over}
 use Rattle.vp_answer.specs.Outcome.{Outcome, Unread}
 use Rattle.vp_answer.specs.StatusCode.{code_of}
-use Rattle.vp_run.specs.declared.command.Command.{Command}
+use Rattle.vp_command.specs.declared.command.Command.{Command}
 use Rattle.vp_answer.specs.declared.status.Status.{Status}
 
 task_of-take : (a b c d : Word) (more : List Word) → option_map Over (task_of a (take 5 (b ∷ c ∷ d ∷ more))) ≡ option_map Over (task_of a (b ∷ c ∷ d ∷ more))

@@ -15,15 +15,15 @@ use Rattle.vp_meter.proofs.Exact.{meter_tells}
 use Rattle.vp_meter.specs.Metered.{IsMetering, Metering}
 use Rattle.vp_meter.specs.Spelling.{meter_text}
 use Rattle.vp_answer.specs.Answers.{Answer, answer_read, done}
-use Rattle.vp_answer.proofs.Inputs.{tables_read}
+use Rattle.vp_pay.proofs.Inputs.{tables_read}
 use Rattle.vp_run.specs.Answer.{answer, job_answer, meter_job, read_as}
-use Rattle.vp_run.specs.Commands.{command_of}
+use Rattle.vp_command.specs.Commands.{command_of}
 use Rattle.vp_run.specs.Deal.{has_bet}
 use Rattle.vp_run.specs.EveryDeal.{MetersAreTold}
 use Rattle.vp_run.specs.Meter.{Ranged, has_line, line_place, meter_input, metering_of}
-use Rattle.vp_run.specs.declared.command.Command.TheVariants.{Over}
-use Rattle.vp_run.specs.declared.command.Task.TheVariants.{Meter}
-use Rattle.vp_run.proofs.CommandWords.{in_range}
+use Rattle.vp_command.specs.declared.command.Command.TheVariants.{Over}
+use Rattle.vp_command.specs.declared.command.Task.TheVariants.{Meter}
+use Rattle.vp_command.proofs.CommandWords.{in_range}
 use Rattle.vp_run.proofs.FittingBets.{bet_fits}
 use Rattle.vp_run.proofs.NoCommand.{answer_as}
 

@@ -6,9 +6,9 @@ use Rattle.vp_answer.specs.declared.status.Status.TheVariants.{Done, Finding, Us
 use Rattle.vp_answer.specs.declared.stop.Stop.{Stop}
 use Rattle.vp_answer.specs.declared.stop.Stop.TheVariants.{Finding as Found, Record as RecordRefusal, Refused as Refusal}
 use Rattle.vp_run.specs.Answer.{answer, answer_to, is_command, job_answer, job_of, job_status, tables_answer, usage}
-use Rattle.vp_run.specs.Commands.{command_of}
-use Rattle.vp_run.specs.declared.command.Command.{Command}
-use Rattle.vp_run.specs.declared.command.Command.TheVariants.{Over, Tables}
+use Rattle.vp_command.specs.Commands.{command_of}
+use Rattle.vp_command.specs.declared.command.Command.{Command}
+use Rattle.vp_command.specs.declared.command.Command.TheVariants.{Over, Tables}
 use Rattle.vp_run.specs.declared.job.Job.{Job}
 use Rattle.vp_run.specs.declared.job.Job.TheVariants.{Audit, Certify, Checked, Compile, Cross, Deal, Hits, Meter, Multi, Play, Replay, Sessions}
 use Rattle.vp_run.specs.Sessions.{Mixed, by_record, sessions_answer, status_by, unlawful}

@@ -8,16 +8,16 @@ use Rattle.vp_loggram.specs.Spelling.{log_text}
 use Rattle.vp_replay.specs.declared.rule.Broken.{Broken}
 use Rattle.vp_gen.proofs.Sizes.{log_width}
 use Rattle.vp_answer.specs.Answers.{Answer, answer_read, done}
-use Rattle.vp_answer.proofs.Inputs.{tables_read}
+use Rattle.vp_pay.proofs.Inputs.{tables_read}
 use Rattle.vp_run.specs.Answer.{answer, job_answer, judged_log, play_job, read_as}
-use Rattle.vp_run.specs.Commands.{command_of}
+use Rattle.vp_command.specs.Commands.{command_of}
 use Rattle.vp_run.specs.Deal.{has_bet}
 use Rattle.vp_run.specs.Play.{IsPlayed, Played, log_of, play_input, play_lines}
 use Rattle.vp_run.specs.Played.{IsReplayed, PlaysAreReplayed}
 use Rattle.vp_run.specs.Replay.{log_file}
-use Rattle.vp_run.specs.declared.command.Command.TheVariants.{Over}
-use Rattle.vp_run.specs.declared.command.Task.TheVariants.{Play}
-use Rattle.vp_run.proofs.CommandWords.{in_range}
+use Rattle.vp_command.specs.declared.command.Command.TheVariants.{Over}
+use Rattle.vp_command.specs.declared.command.Task.TheVariants.{Play}
+use Rattle.vp_command.proofs.CommandWords.{in_range}
 use Rattle.vp_run.proofs.FittingBets.{bet_fits}
 use Rattle.vp_run.proofs.LogFiles.{file_says, file_short}
 use Rattle.vp_run.proofs.MadeLogs.{log_accepted}

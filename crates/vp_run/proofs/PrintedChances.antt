@@ -17,15 +17,15 @@ use Rattle.vp_hits.specs.Hits.{chance, hits, often}
 use Rattle.vp_hits.proofs.Printed.{printed_alike}
 use Rattle.vp_hits.proofs.Shares.{lines_make_the_return, lines_share_out_draws}
 use Rattle.vp_answer.specs.Answers.{Answer, answer_read, done}
-use Rattle.vp_answer.proofs.Inputs.{tables_read}
+use Rattle.vp_pay.proofs.Inputs.{tables_read}
 use Rattle.vp_run.specs.Answer.{answer, hits_job, job_answer, read_as}
 use Rattle.vp_run.specs.Certify.{Staked}
 use Rattle.vp_run.specs.Chances.{HasChances, HitsPrintChances, PrintsChances}
-use Rattle.vp_run.specs.Commands.{command_of}
+use Rattle.vp_command.specs.Commands.{command_of}
 use Rattle.vp_run.specs.Deal.{has_bet}
 use Rattle.vp_run.specs.Hits.{end_lines, hit_lines, hit_words, hits_input, hits_lines}
-use Rattle.vp_run.specs.declared.command.Command.TheVariants.{Over}
-use Rattle.vp_run.specs.declared.command.Task.TheVariants.{Hits}
+use Rattle.vp_command.specs.declared.command.Command.TheVariants.{Over}
+use Rattle.vp_command.specs.declared.command.Task.TheVariants.{Hits}
 use Rattle.vp_run.proofs.NoCommand.{answer_as}
 
 -- ---- the law

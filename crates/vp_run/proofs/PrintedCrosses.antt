@@ -16,11 +16,11 @@ use Rattle.vp_cross.proofs.Costs.{make_up, printed_value}
 use Rattle.vp_cross.proofs.Totals.{costs_add_up, never_exceeds}
 use Rattle.vp_answer.specs.Answers.{Answer, answer_read, done}
 use Rattle.vp_run.specs.Answer.{answer, cross_job, job_answer, read_as}
-use Rattle.vp_run.specs.Commands.{command_of}
+use Rattle.vp_command.specs.Commands.{command_of}
 use Rattle.vp_run.specs.Cross.{Crossing, cross_input, cross_lines, crossed_of}
 use Rattle.vp_run.specs.Crossed.{CrossesPricePlay, IsCrossedHold, PrintsCross}
-use Rattle.vp_run.specs.declared.command.Command.TheVariants.{Over}
-use Rattle.vp_run.specs.declared.command.Task.TheVariants.{Cross}
+use Rattle.vp_command.specs.declared.command.Command.TheVariants.{Over}
+use Rattle.vp_command.specs.declared.command.Task.TheVariants.{Cross}
 use Rattle.vp_run.proofs.CrossInputs.{crosses_read}
 use Rattle.vp_run.proofs.NoCommand.{answer_as}
 

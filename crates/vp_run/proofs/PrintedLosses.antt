@@ -16,10 +16,10 @@ use Rattle.vp_run.specs.Answer.{answer, audit_job, job_answer, read_as}
 use Rattle.vp_run.specs.Audit.{Listed, audit_input, audit_lines}
 use Rattle.vp_run.specs.Deal.{has_bet}
 use Rattle.vp_run.specs.Losses.{AuditsPrintLosses, PrintsLoss}
-use Rattle.vp_run.specs.Commands.{command_of}
-use Rattle.vp_run.specs.declared.command.Command.TheVariants.{Over}
-use Rattle.vp_run.specs.declared.command.Task.TheVariants.{Audit}
-use Rattle.vp_run.proofs.CommandWords.{in_range}
+use Rattle.vp_command.specs.Commands.{command_of}
+use Rattle.vp_command.specs.declared.command.Command.TheVariants.{Over}
+use Rattle.vp_command.specs.declared.command.Task.TheVariants.{Audit}
+use Rattle.vp_command.proofs.CommandWords.{in_range}
 use Rattle.vp_run.proofs.FittingBets.{bet_fits}
 use Rattle.vp_run.proofs.NoCommand.{answer_as}
 

@@ -13,14 +13,14 @@ use Rattle.vp_multi.proofs.DealMoments.{moments_are_unique, moments_exist, withi
 use Rattle.vp_multi.proofs.DeckSums.{variance_has_two_parts}
 use Rattle.vp_multi.proofs.Printed.{printed_alike}
 use Rattle.vp_answer.specs.Answers.{Answer, answer_read, done}
-use Rattle.vp_answer.proofs.Inputs.{tables_read}
+use Rattle.vp_pay.proofs.Inputs.{tables_read}
 use Rattle.vp_run.specs.Answer.{answer, job_answer, multi_job, read_as}
-use Rattle.vp_run.specs.Commands.{command_of}
+use Rattle.vp_command.specs.Commands.{command_of}
 use Rattle.vp_run.specs.Deal.{has_bet}
 use Rattle.vp_run.specs.Moments.{HasMoments, MultisPrintMoments, PrintsMoments}
 use Rattle.vp_run.specs.Multi.{Drawn, moments_of, multi_input, multi_lines}
-use Rattle.vp_run.specs.declared.command.Command.TheVariants.{Over}
-use Rattle.vp_run.specs.declared.command.Task.TheVariants.{Multi}
+use Rattle.vp_command.specs.declared.command.Command.TheVariants.{Over}
+use Rattle.vp_command.specs.declared.command.Task.TheVariants.{Multi}
 use Rattle.vp_run.proofs.NoCommand.{answer_as}
 
 -- the answer of `multi` to what its input says

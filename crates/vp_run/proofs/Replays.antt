@@ -22,13 +22,13 @@ use Rattle.vp_replay.specs.declared.rule.LogRule.{LogRule}
 use Rattle.vp_replay.proofs.Costing.{cost_is, length-in_order}
 use Rattle.vp_replay.proofs.Runs.{lawful_game, lawful_games}
 use Rattle.vp_answer.specs.Answers.{Answer, answer_read}
-use Rattle.vp_answer.proofs.Inputs.{section_read}
+use Rattle.vp_pay.proofs.Inputs.{section_read}
 use Rattle.vp_run.specs.Answer.{answer, job_answer, judged_log, log_read}
-use Rattle.vp_run.specs.Commands.{command_of}
+use Rattle.vp_command.specs.Commands.{command_of}
 use Rattle.vp_run.specs.Replay.{ReplayInputsAreRead, as_spelled, fits_all, replay_input}
 use Rattle.vp_run.specs.Replayed.{IsFirstBreak, NamesBreak, ReplaysTellCosts, TellsCosts}
-use Rattle.vp_run.specs.declared.command.Command.TheVariants.{Over}
-use Rattle.vp_run.specs.declared.command.Task.TheVariants.{Replay}
+use Rattle.vp_command.specs.declared.command.Command.TheVariants.{Over}
+use Rattle.vp_command.specs.declared.command.Task.TheVariants.{Replay}
 use Rattle.vp_run.proofs.NoCommand.{answer_as}
 
 -- ---- the input

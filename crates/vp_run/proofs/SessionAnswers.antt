@@ -21,12 +21,12 @@ use Rattle.vp_answer.specs.Answers.{Answer, answer_read}
 use Rattle.vp_answer.specs.declared.status.Status.{Status}
 use Rattle.vp_answer.specs.declared.status.Status.TheVariants.{Done, Finding}
 use Rattle.vp_run.specs.Answer.{answer, job_answer, judged_log, read_as, sessions_job}
-use Rattle.vp_run.specs.Commands.{command_of}
+use Rattle.vp_command.specs.Commands.{command_of}
 use Rattle.vp_run.specs.Replay.{log_file}
 use Rattle.vp_run.specs.Sessions.{Mixed, by_record, judged, log_answer, session_text, sessions_answer, sessions_input, sessions_text, status_by, unlawful}
 use Rattle.vp_run.specs.SessionsTold.{HasLines, IsReplayedAlone, NamesRecord, SessionsAreApart, SessionsAreReplayed, TellsSessions, games_in, lines_of}
-use Rattle.vp_run.specs.declared.command.Command.TheVariants.{Over}
-use Rattle.vp_run.specs.declared.command.Task.TheVariants.{Replay, Sessions}
+use Rattle.vp_command.specs.declared.command.Command.TheVariants.{Over}
+use Rattle.vp_command.specs.declared.command.Task.TheVariants.{Replay, Sessions}
 use Rattle.vp_run.proofs.NoCommand.{answer_as}
 use Rattle.vp_run.proofs.LogFiles.{file_says, file_short}
 use Rattle.vp_run.proofs.Replays.{replay_as}

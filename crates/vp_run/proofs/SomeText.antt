@@ -15,15 +15,15 @@ use Rattle.vp_answer.specs.declared.stop.Stop.{Stop}
 use Rattle.vp_answer.specs.declared.stop.Stop.TheVariants.{Finding, Record, Refused}
 use Rattle.vp_run.specs.Answer.{answer, answer_to, built_in_text, job_answer, job_of, job_text, tables_answer, usage}
 use Rattle.vp_run.specs.Check.{checked_lines}
-use Rattle.vp_run.specs.Commands.{command_of}
+use Rattle.vp_command.specs.Commands.{command_of}
 use Rattle.vp_draws.specs.Draws.{return_denominator}
 use Rattle.vp_hits.specs.Hits.{often}
 use Rattle.vp_run.specs.Compile.{said_lines}
 use Rattle.vp_run.specs.Sessions.{Mixed, by_record, session_text, sessions_answer, sessions_text, unlawful}
 use Rattle.vp_csv.specs.Rules.{refused_record}
 use Rattle.vp_csv.specs.Sessions.{sessions_of}
-use Rattle.vp_run.specs.declared.command.Command.{Command}
-use Rattle.vp_run.specs.declared.command.Command.TheVariants.{Over, Tables}
+use Rattle.vp_command.specs.declared.command.Command.{Command}
+use Rattle.vp_command.specs.declared.command.Command.TheVariants.{Over, Tables}
 use Rattle.vp_run.specs.declared.job.Job.{Job}
 use Rattle.vp_run.specs.declared.job.Job.TheVariants.{Certify, Checked, Deal, Replay, Sessions, Meter, Audit, Multi, Play, Compile, Cross, Hits}
 use Rattle.vp_run.specs.Hits.{hit_lines}

@@ -24,15 +24,15 @@ use Rattle.vp_rule.specs.Lists.{RuleList, RulePool}
 use Rattle.vp_run.specs.Audit.{audit_input, audit_lines}
 use Rattle.vp_run.specs.Certify.{certify_input}
 use Rattle.vp_run.specs.Check.{checked_lines, rule_of}
-use Rattle.vp_run.specs.Commands.{command_of, reads}
+use Rattle.vp_command.specs.Commands.{command_of, reads}
 use Rattle.vp_run.specs.Cross.{cross_input, cross_lines}
 use Rattle.vp_run.specs.Deal.{deal_input, deal_lines}
 use Rattle.vp_run.specs.Replay.{replay_input, stop_of}
 use Rattle.vp_run.specs.Sessions.{sessions_answer, sessions_input}
-use Rattle.vp_run.specs.declared.command.Command.{Command}
-use Rattle.vp_run.specs.declared.command.Command.TheVariants.{Over, Tables}
-use Rattle.vp_run.specs.declared.command.Task.{Task}
-use Rattle.vp_run.specs.declared.command.Task.TheVariants.{Certify, Check, Deal, Replay, Sessions, Meter, Audit, Multi, Play, Compile, Cross, Hits}
+use Rattle.vp_command.specs.declared.command.Command.{Command}
+use Rattle.vp_command.specs.declared.command.Command.TheVariants.{Over, Tables}
+use Rattle.vp_command.specs.declared.command.Task.{Task}
+use Rattle.vp_command.specs.declared.command.Task.TheVariants.{Certify, Check, Deal, Replay, Sessions, Meter, Audit, Multi, Play, Compile, Cross, Hits}
 use Rattle.vp_run.specs.declared.job.Job.{Job}
 use Rattle.vp_run.specs.declared.job.Job.TheVariants.{Certify as CertifyJob, Checked as CheckedJob, Deal as DealJob, Replay as ReplayJob, Sessions as SessionsJob, Meter as MeterJob, Audit as AuditJob, Multi as MultiJob, Play as PlayJob, Compile as CompileJob, Cross as CrossJob, Hits as HitsJob}
 use Rattle.vp_run.specs.Meter.{meter_input, metering_of}

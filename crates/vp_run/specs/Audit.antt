@@ -12,7 +12,7 @@ use Rattle.vp_rule.specs.Valid.{IsList}
 use Rattle.vp_audit.specs.Audits.{audited}
 use Rattle.vp_audit.specs.declared.audited.Audited.{Audited}
 use Rattle.vp_audit.specs.declared.audited.Tally.{Tally}
-use Rattle.vp_answer.specs.Inputs.{AreRead}
+use Rattle.vp_pay.specs.Inputs.{AreRead}
 use Rattle.vp_run.specs.Deal.{fraction, has_bet}
 
 -- what an input of `audit` says: a pay table that has the bet, then a list for it, and nothing else; or the line where it is refused

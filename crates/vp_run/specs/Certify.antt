@@ -1,7 +1,7 @@
 -- `certify`: what its input says. Input and text are this program's own (docs/FORMATS.md, `vpoker certify`).
 use Rattle.std.specs.Prelude.{ℕ, List, Result}
 use Rattle.vp_pay.specs.declared.table.PayTable.{PayTable}
-use Rattle.vp_answer.specs.Inputs.{AreRead, RefusesTable, SpellsTable, table_input}
+use Rattle.vp_pay.specs.Inputs.{AreRead, RefusesTable, SpellsTable, table_input}
 use Rattle.vp_run.specs.Deal.{has_bet}
 
 -- what an input of `certify` says: a pay table that has the bet, and nothing else; or the line where it is refused

@@ -13,10 +13,10 @@ use Rattle.vp_answer.specs.Answers.{Answer}
 use Rattle.vp_answer.specs.declared.status.Status.TheVariants.{Done}
 use Rattle.vp_run.specs.Answer.{answer}
 use Rattle.vp_run.specs.Certify.{Staked}
-use Rattle.vp_run.specs.Commands.{command_of}
+use Rattle.vp_command.specs.Commands.{command_of}
 use Rattle.vp_run.specs.Hits.{hits_input, hits_lines}
-use Rattle.vp_run.specs.declared.command.Command.TheVariants.{Over}
-use Rattle.vp_run.specs.declared.command.Task.TheVariants.{Hits}
+use Rattle.vp_command.specs.declared.command.Command.TheVariants.{Over}
+use Rattle.vp_command.specs.declared.command.Task.TheVariants.{Hits}
 
 -- a printed hold of a deal: none of the 32 holds is worth more; of each line, and of none, its chance over the common denominator is exactly
 -- the share of its draws that end so; and that is the chance of the deal

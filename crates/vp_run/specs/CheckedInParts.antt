@@ -8,9 +8,9 @@ use Rattle.vp_check.specs.Parts.{AreWalked, Walk}
 use Rattle.vp_check.specs.Spelling.{SpellsCertificate}
 use Rattle.vp_answer.specs.declared.status.Status.TheVariants.{Done}
 use Rattle.vp_run.specs.Answer.{answer}
-use Rattle.vp_run.specs.Commands.{command_of}
-use Rattle.vp_run.specs.declared.command.Command.TheVariants.{Over}
-use Rattle.vp_run.specs.declared.command.Task.TheVariants.{Check}
+use Rattle.vp_command.specs.Commands.{command_of}
+use Rattle.vp_command.specs.declared.command.Command.TheVariants.{Over}
+use Rattle.vp_command.specs.declared.command.Task.TheVariants.{Check}
 
 -- `check`, walking these class lines, finds no broken rule in this text
 pub record IsYes (bytes : List ℕ) (walk : Walk) : Type 0 where

@@ -18,7 +18,7 @@ use Rattle.vp_compile.specs.Matrices.{Grid}
 use Rattle.vp_compile.specs.declared.compiling.Compiled.{Compiled}
 use Rattle.vp_audit.specs.Audits.{loss}
 use Rattle.vp_audit.specs.Compiled.{compiled_list, ordered_list, pool_rows}
-use Rattle.vp_answer.specs.Inputs.{AreRead}
+use Rattle.vp_pay.specs.Inputs.{AreRead}
 use Rattle.vp_run.specs.Deal.{fraction, has_bet}
 
 -- what an input of `compile` says: a pay table that has the bet, then a pool for it, and nothing else; or the line where it is refused

@@ -14,7 +14,7 @@ use Rattle.vp_draws.specs.Draws.{return_denominator, sum_of_best}
 use Rattle.vp_cross.specs.Crossings.{costly_classes, costly_deals, sum_of_crossed, worst}
 use Rattle.vp_cross.specs.declared.crossed.Crossed.{Crossed}
 use Rattle.vp_cross.specs.declared.crossed.Worst.{Worst}
-use Rattle.vp_answer.specs.Inputs.{AreRead, section_input}
+use Rattle.vp_pay.specs.Inputs.{AreRead, section_input}
 use Rattle.vp_run.specs.Deal.{fraction, has_bet}
 
 -- the second table has the deck of the first, and a column for the bet

@@ -12,10 +12,10 @@ use Rattle.vp_cross.specs.declared.crossed.Worst.{Worst}
 use Rattle.vp_answer.specs.Answers.{Answer}
 use Rattle.vp_answer.specs.declared.status.Status.TheVariants.{Done}
 use Rattle.vp_run.specs.Answer.{answer}
-use Rattle.vp_run.specs.Commands.{command_of}
+use Rattle.vp_command.specs.Commands.{command_of}
 use Rattle.vp_run.specs.Cross.{Crossing, cross_input, cross_lines, crossed_of}
-use Rattle.vp_run.specs.declared.command.Command.TheVariants.{Over}
-use Rattle.vp_run.specs.declared.command.Task.TheVariants.{Cross}
+use Rattle.vp_command.specs.declared.command.Command.TheVariants.{Over}
+use Rattle.vp_command.specs.declared.command.Task.TheVariants.{Cross}
 
 -- a hold that the first table prints for a deal: on the second it is worth the crossed value, which over the common denominator is its
 -- mean payment there over all draws, and the best of the 32 holds is worth more by the cost

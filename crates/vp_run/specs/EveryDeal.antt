@@ -11,14 +11,14 @@ use Rattle.vp_answer.specs.Answers.{Answer}
 use Rattle.vp_run.specs.Answer.{answer}
 use Rattle.vp_run.specs.Certify.{certify_input}
 use Rattle.vp_draws.specs.Draws.{IsPrinted}
-use Rattle.vp_run.specs.Commands.{command_of}
+use Rattle.vp_command.specs.Commands.{command_of}
 use Rattle.vp_run.specs.Deal.{Dealt, best_of, deal_input, deal_lines}
 use Rattle.vp_run.specs.Meter.{meter_input, metering_of}
 use Rattle.vp_meter.specs.Laws.{TellsMeter}
 use Rattle.vp_meter.specs.Metered.{IsMetering}
 use Rattle.vp_meter.specs.Spelling.{meter_text}
-use Rattle.vp_run.specs.declared.command.Command.TheVariants.{Over}
-use Rattle.vp_run.specs.declared.command.Task.TheVariants.{Certify, Check, Deal, Meter}
+use Rattle.vp_command.specs.declared.command.Command.TheVariants.{Over}
+use Rattle.vp_command.specs.declared.command.Task.TheVariants.{Certify, Check, Deal, Meter}
 use Rattle.vp_answer.specs.declared.status.Status.TheVariants.{Done}
 
 -- the answer is the four lines of a hand. The hold that it prints has an expected payment that no other of the 32 holds exceeds, and

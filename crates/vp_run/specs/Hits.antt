@@ -7,7 +7,7 @@ use Rattle.vp_pay.specs.declared.table.PayLine.{PayLine}
 use Rattle.vp_pay.specs.declared.table.PayTable.{PayTable}
 use Rattle.vp_draws.specs.Draws.{return_denominator, sum_of_best}
 use Rattle.vp_hits.specs.Hits.{often}
-use Rattle.vp_answer.specs.Inputs.{AreRead, RefusesTable, SpellsTable, table_input}
+use Rattle.vp_pay.specs.Inputs.{AreRead, RefusesTable, SpellsTable, table_input}
 use Rattle.vp_run.specs.Certify.{Staked}
 use Rattle.vp_run.specs.Deal.{fraction, has_bet}
 

@@ -15,9 +15,9 @@ use Rattle.vp_answer.specs.Answers.{Answer}
 use Rattle.vp_answer.specs.declared.status.Status.TheVariants.{Done}
 use Rattle.vp_run.specs.Answer.{answer}
 use Rattle.vp_run.specs.Audit.{Listed, audit_input, audit_lines}
-use Rattle.vp_run.specs.Commands.{command_of}
-use Rattle.vp_run.specs.declared.command.Command.TheVariants.{Over}
-use Rattle.vp_run.specs.declared.command.Task.TheVariants.{Audit}
+use Rattle.vp_command.specs.Commands.{command_of}
+use Rattle.vp_command.specs.declared.command.Command.TheVariants.{Over}
+use Rattle.vp_command.specs.declared.command.Task.TheVariants.{Audit}
 
 -- The answer is the lines of a list, the loss among them. It is the sum over all deals of the best values, less that of the least
 -- values, none of which exceeds the best value of its deal. Where an exception is of a deal's class, the deal is worth what the

@@ -4,10 +4,10 @@ use Rattle.vp_count.specs.Table.{first_word}
 use Rattle.vp_answer.specs.Answers.{words_read}
 use Rattle.vp_answer.specs.Asking.{alone_read}
 use Rattle.vp_run.specs.Answer.{job_of}
-use Rattle.vp_run.specs.Commands.{command_of}
+use Rattle.vp_command.specs.Commands.{command_of}
 use Rattle.vp_run.specs.Compile.{compile_words}
-use Rattle.vp_run.specs.declared.command.Command.{Command}
-use Rattle.vp_run.specs.declared.command.Command.TheVariants.{Over, Tables}
+use Rattle.vp_command.specs.declared.command.Command.{Command}
+use Rattle.vp_command.specs.declared.command.Command.TheVariants.{Over, Tables}
 use Rattle.vp_run.specs.declared.job.Job.{Job}
 use Rattle.vp_run.specs.declared.job.Job.TheVariants.{Certify, Checked, Deal, Replay, Sessions, Meter, Audit, Multi, Play, Compile, Cross, Hits}
 

@@ -3,7 +3,7 @@ use Rattle.std.specs.Prelude.{ℕ, ◌≤◌, Bool, ◌&&◌, List, Option, Resu
 use Rattle.std.specs.Option.{unwrap_or}
 use Rattle.vp_pay.specs.declared.table.PayTable.{PayTable}
 use Rattle.vp_meter.specs.Metered.{IsMetering, Metering}
-use Rattle.vp_answer.specs.Inputs.{AreRead, RefusesTable, SpellsTable, table_input}
+use Rattle.vp_pay.specs.Inputs.{AreRead, RefusesTable, SpellsTable, table_input}
 use Rattle.vp_run.specs.Deal.{has_bet}
 
 -- the place of the pay line with this name, if the table has one

@@ -13,10 +13,10 @@ use Rattle.vp_multi.specs.Sums.{first_moment, printed_square, second_moment, squ
 use Rattle.vp_answer.specs.Answers.{Answer}
 use Rattle.vp_answer.specs.declared.status.Status.TheVariants.{Done}
 use Rattle.vp_run.specs.Answer.{answer}
-use Rattle.vp_run.specs.Commands.{command_of}
+use Rattle.vp_command.specs.Commands.{command_of}
 use Rattle.vp_run.specs.Multi.{Drawn, moments_of, multi_input, multi_lines}
-use Rattle.vp_run.specs.declared.command.Command.TheVariants.{Over}
-use Rattle.vp_run.specs.declared.command.Task.TheVariants.{Multi}
+use Rattle.vp_command.specs.declared.command.Command.TheVariants.{Over}
+use Rattle.vp_command.specs.declared.command.Task.TheVariants.{Multi}
 
 -- a printed hold of a deal, to which several hands are drawn: none of the 32 holds is worth more, its mean square is the deal's and no
 -- less than the square of its mean, and over all lists of draws the moments of the total payment are these numbers and no others

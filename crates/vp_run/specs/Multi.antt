@@ -7,7 +7,7 @@ use Rattle.vp_sets.specs.Sets.{choose}
 use Rattle.vp_sets.specs.Draws.{common}
 use Rattle.vp_multi.specs.Sums.{mean_sum, second_sum, within_sum, between_sum}
 use Rattle.vp_multi.specs.declared.several_hands.MomentSums.{MomentSums}
-use Rattle.vp_answer.specs.Inputs.{AreRead, RefusesTable, SpellsTable, table_input}
+use Rattle.vp_pay.specs.Inputs.{AreRead, RefusesTable, SpellsTable, table_input}
 use Rattle.vp_run.specs.Deal.{fraction, has_bet}
 
 -- what an input of `multi` says: a pay table that has the bet, and nothing else; or the line where it is refused

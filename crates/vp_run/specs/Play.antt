@@ -8,7 +8,7 @@ use Rattle.vp_loggram.specs.Logs.{LogValue}
 use Rattle.vp_replay.specs.Summaries.{summary_lines, summary_of}
 use Rattle.vp_replay.specs.declared.summary.Summary.{Summary}
 use Rattle.vp_gen.specs.Generator.{generated}
-use Rattle.vp_answer.specs.Inputs.{AreRead, RefusesTable, SpellsTable, table_input}
+use Rattle.vp_pay.specs.Inputs.{AreRead, RefusesTable, SpellsTable, table_input}
 use Rattle.vp_run.specs.Deal.{has_bet}
 
 -- what an input of `play` says: a pay table that has the bet, and nothing else; or the line where it is refused

@@ -8,11 +8,11 @@ use Rattle.vp_gen.specs.Promises.{IsAccepted}
 use Rattle.vp_answer.specs.Answers.{Answer, done}
 use Rattle.vp_answer.specs.declared.status.Status.TheVariants.{Done}
 use Rattle.vp_run.specs.Answer.{answer}
-use Rattle.vp_run.specs.Commands.{command_of}
+use Rattle.vp_command.specs.Commands.{command_of}
 use Rattle.vp_run.specs.Play.{Played, log_of, play_input, play_lines}
 use Rattle.vp_run.specs.Replay.{log_file}
-use Rattle.vp_run.specs.declared.command.Command.TheVariants.{Over}
-use Rattle.vp_run.specs.declared.command.Task.TheVariants.{Play, Replay}
+use Rattle.vp_command.specs.declared.command.Command.TheVariants.{Over}
+use Rattle.vp_command.specs.declared.command.Task.TheVariants.{Play, Replay}
 
 -- what is written of the pay table and the log is an input of `replay`, short enough to be read. No game breaks a law, and the answer
 -- is the lines of the costs, and behind them the lines of the numbers, which are those of `play`

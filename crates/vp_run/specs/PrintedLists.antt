@@ -16,10 +16,10 @@ use Rattle.vp_answer.specs.Answers.{Answer, done}
 use Rattle.vp_answer.specs.declared.status.Status.TheVariants.{Done}
 use Rattle.vp_run.specs.Answer.{answer}
 use Rattle.vp_run.specs.Audit.{Listed, audit_input, audit_lines}
-use Rattle.vp_run.specs.Commands.{command_of}
+use Rattle.vp_command.specs.Commands.{command_of}
 use Rattle.vp_run.specs.Compile.{Pooled, class_number, compile_input, compile_lines, excepted, last_places, printed_list}
-use Rattle.vp_run.specs.declared.command.Command.TheVariants.{Over}
-use Rattle.vp_run.specs.declared.command.Task.TheVariants.{Audit, Compile}
+use Rattle.vp_command.specs.declared.command.Command.TheVariants.{Over}
+use Rattle.vp_command.specs.declared.command.Task.TheVariants.{Audit, Compile}
 
 -- ---- what is printed loses little
 

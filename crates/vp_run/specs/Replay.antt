@@ -11,7 +11,7 @@ use Rattle.vp_replay.specs.Rules.{break_in}
 use Rattle.vp_replay.specs.declared.rule.Broken.{Broken}
 use Rattle.vp_replay.specs.declared.rule.LogRule.{LogRule}
 use Rattle.vp_replay.specs.declared.rule.LogRule.TheVariants as law
-use Rattle.vp_answer.specs.Inputs.{AreRead, RefusesSection, SpellsSection, section_input}
+use Rattle.vp_pay.specs.Inputs.{AreRead, RefusesSection, SpellsSection, section_input}
 use Rattle.vp_answer.specs.declared.rule.Rule.{Rule}
 use Rattle.vp_answer.specs.declared.rule.Rule.TheVariants as rule
 use Rattle.vp_answer.specs.declared.stop.Stop.{Stop}

@@ -14,10 +14,10 @@ use Rattle.vp_replay.specs.declared.rule.Broken.{Broken}
 use Rattle.vp_answer.specs.Answers.{Answer, finding}
 use Rattle.vp_answer.specs.declared.status.Status.TheVariants.{Done}
 use Rattle.vp_run.specs.Answer.{answer}
-use Rattle.vp_run.specs.Commands.{command_of}
+use Rattle.vp_command.specs.Commands.{command_of}
 use Rattle.vp_run.specs.Replay.{replay_input, rule_of}
-use Rattle.vp_run.specs.declared.command.Command.TheVariants.{Over}
-use Rattle.vp_run.specs.declared.command.Task.TheVariants.{Replay}
+use Rattle.vp_command.specs.declared.command.Command.TheVariants.{Over}
+use Rattle.vp_command.specs.declared.command.Task.TheVariants.{Replay}
 
 -- all games keep the laws, each from the credits of the one before it, and the answer is what their holds cost and the numbers of the
 -- log; each cost is the best value of the 32 holds of the deal, less that of the held cards, at the bet

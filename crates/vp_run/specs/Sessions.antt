@@ -17,7 +17,7 @@ use Rattle.vp_replay.specs.Rules.{break_in}
 use Rattle.vp_replay.specs.Summaries.{replay_lines}
 use Rattle.vp_replay.specs.declared.rule.Broken.{Broken}
 use Rattle.vp_answer.specs.Answers.{Answer, done, finding, record_refusal}
-use Rattle.vp_answer.specs.Inputs.{AreRead}
+use Rattle.vp_pay.specs.Inputs.{AreRead}
 use Rattle.vp_answer.specs.declared.status.Status.{Status}
 use Rattle.vp_answer.specs.declared.status.Status.TheVariants.{Done, Finding}
 use Rattle.vp_run.specs.Replay.{rule_of}

@@ -11,11 +11,11 @@ use Rattle.vp_csv.specs.Sessions.{Session, behind_first, own, session_of, sessio
 use Rattle.vp_answer.specs.Answers.{Answer, record_refusal}
 use Rattle.vp_answer.specs.declared.status.Status.TheVariants.{Done, Finding}
 use Rattle.vp_run.specs.Answer.{answer}
-use Rattle.vp_run.specs.Commands.{command_of}
+use Rattle.vp_command.specs.Commands.{command_of}
 use Rattle.vp_run.specs.Replay.{log_file}
 use Rattle.vp_run.specs.Sessions.{is_unlawful, session_text, sessions_input, sessions_text, unlawful}
-use Rattle.vp_run.specs.declared.command.Command.TheVariants.{Over}
-use Rattle.vp_run.specs.declared.command.Task.TheVariants.{Replay, Sessions}
+use Rattle.vp_command.specs.declared.command.Command.TheVariants.{Over}
+use Rattle.vp_command.specs.declared.command.Task.TheVariants.{Replay, Sessions}
 
 -- ---- each session is replayed by itself
 

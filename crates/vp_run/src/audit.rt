@@ -6,7 +6,7 @@ ghost use Rattle.vp_text.specs.Written.{line_of, written};
 ghost use Rattle.vp_io.specs.Puts.{Puts};
 ghost use Rattle.vp_rule.specs.Valid.{IsList};
 ghost use Rattle.vp_audit.specs.Audits.{audited};
-ghost use Rattle.vp_answer.specs.Reads.{Reads};
+ghost use Rattle.vp_pay.specs.Reads.{Reads};
 ghost use Rattle.vp_run.specs.Audit.{IsListed, audit_input, audited_lines, rule_lines, rule_words, sum_lines, tally_words};
 
 use std::marker::{Brand, Model};

@@ -2,7 +2,7 @@
 
 ghost use Rattle.std.specs.Prelude.{◌≤◌, IfOk, length};
 ghost use Rattle.vp_pay.specs.Bets.{IsBet};
-ghost use Rattle.vp_answer.specs.Reads.{Reads};
+ghost use Rattle.vp_pay.specs.Reads.{Reads};
 ghost use Rattle.vp_run.specs.Certify.{certify_input};
 
 use std::marker::Model;
@@ -73,7 +73,7 @@ impl CertifyJob {
 }
 
 /// The pay table that the bytes say, for a bet of `coin`.
-#[tactic(auto, unfolding(vp_answer::specs::Inputs::table_input))]
+#[tactic(auto, unfolding(vp_pay::specs::Inputs::table_input))]
 pub(crate) fn read_certify_input(bytes: &[u8], coin: u8) -> Result<PayTable, Refused>
     requires some { 1 ≤ coin }
     requires limit { length bytes.now ≤ 67108864 }

@@ -5,7 +5,7 @@ ghost use Rattle.vp_io.specs.Puts.{Puts};
 ghost use Rattle.vp_pay.specs.Bets.{IsBet};
 ghost use Rattle.vp_rule.specs.Valid.{IsPool};
 ghost use Rattle.vp_text.specs.Written.{written};
-ghost use Rattle.vp_answer.specs.Reads.{Reads};
+ghost use Rattle.vp_pay.specs.Reads.{Reads};
 ghost use Rattle.vp_run.specs.Compile.{IsCompiled, IsPooled, class_number, compile_input, compile_lines, limit, said_lines};
 
 use std::alloc::{AllocError, Global};

@@ -4,7 +4,7 @@ ghost use Rattle.std.specs.Prelude.{◌≡◌, ◌*◌, ◌≤◌, IfOk, length}
 ghost use Rattle.vp_count.specs.Table.{first_word};
 ghost use Rattle.vp_io.specs.Puts.{Puts};
 ghost use Rattle.vp_text.specs.Written.{line_of, written};
-ghost use Rattle.vp_answer.specs.Reads.{Reads};
+ghost use Rattle.vp_pay.specs.Reads.{Reads};
 ghost use Rattle.vp_run.specs.Cross.{IsCrossing, cross_input, crossed_lines, crossed_of, total_lines, worst_words};
 
 use std::marker::Model;
@@ -157,7 +157,7 @@ fn put_worst<K: Sink>(worst: &Worst, sink: &mut K) -> Result<(), WriteFault>
 }
 
 /// The two pay tables that the bytes say, for a bet of `coin`.
-#[tactic(auto, unfolding(vp_answer::specs::Inputs::section_input))]
+#[tactic(auto, unfolding(vp_pay::specs::Inputs::section_input))]
 pub(crate) fn read_cross_input(bytes: &[u8], coin: u8) -> Result<(PayTable, PayTable), Refused>
     requires some { 1 ≤ coin }
     requires limit { length bytes.now ≤ 67108864 }

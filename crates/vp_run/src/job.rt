@@ -7,7 +7,7 @@ ghost use Rattle.vp_run.specs.Answer.{certify_job, check_read, deal_job, job_of,
 ghost use Rattle.vp_run.specs.Audit.{audit_input};
 ghost use Rattle.vp_run.specs.Certify.{certify_input};
 ghost use Rattle.vp_run.specs.Cross.{cross_input};
-ghost use Rattle.vp_run.specs.Commands.{InRange};
+ghost use Rattle.vp_command.specs.Commands.{InRange};
 ghost use Rattle.vp_run.specs.Deal.{deal_input};
 ghost use Rattle.vp_run.specs.Replay.{replay_input};
 ghost use Rattle.vp_run.specs.Sessions.{sessions_input};

@@ -3,7 +3,7 @@ ghost use Rattle.vp_run.specs.Answer.{UsageIsForNoCommand};
 ghost use Rattle.vp_run.specs.Audit.{AuditInputsAreRead};
 ghost use Rattle.vp_run.specs.Certify.{CertifyInputsAreRead};
 ghost use Rattle.vp_run.specs.Check.{CertificatesAreJudged, CheckInputsAreEither, CheckInputsAreRefused};
-ghost use Rattle.vp_run.specs.Commands.{CommandsAreSpelled};
+ghost use Rattle.vp_command.specs.Commands.{CommandsAreSpelled};
 ghost use Rattle.vp_run.specs.Cross.{CrossInputsAreRead};
 ghost use Rattle.vp_run.specs.Crossed.{CrossesPricePlay};
 ghost use Rattle.vp_run.specs.Deal.{DealInputsAreRead};

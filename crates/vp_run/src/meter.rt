@@ -2,7 +2,7 @@
 
 ghost use Rattle.std.specs.Prelude.{◌≡◌, ◌≤◌, IfOk, length, None, if◌then◌else◌};
 ghost use Rattle.vp_meter.specs.Metered.{IsMetering};
-ghost use Rattle.vp_answer.specs.Reads.{Reads};
+ghost use Rattle.vp_pay.specs.Reads.{Reads};
 ghost use Rattle.vp_run.specs.Deal.{has_bet};
 ghost use Rattle.vp_run.specs.Meter.{line_place, meter_input, metering_of};
 
@@ -82,7 +82,7 @@ impl MeterJob {
 }
 
 /// The pay table that the bytes say, and the place of its line with this name, for a bet of `coin`.
-#[tactic(auto, unfolding(vp_answer::specs::Inputs::table_input))]
+#[tactic(auto, unfolding(vp_pay::specs::Inputs::table_input))]
 pub(crate) fn read_meter_input(
     bytes: &[u8],
     coin: u8,

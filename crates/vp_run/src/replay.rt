@@ -4,7 +4,7 @@ ghost use Rattle.std.specs.Prelude.{◌≡◌, ◌<◌, ◌≤◌, IfOk, length}
 ghost use Rattle.vp_loggram.specs.Logs.{IsLog};
 ghost use Rattle.vp_pay.specs.Table.{IsTable};
 ghost use Rattle.vp_replay.specs.Rules.{break_in};
-ghost use Rattle.vp_answer.specs.Reads.{Reads};
+ghost use Rattle.vp_pay.specs.Reads.{Reads};
 ghost use Rattle.vp_run.specs.Replay.{replay_input, rule_of, stop_of};
 
 use std::marker::{Brand, Model};
@@ -120,7 +120,7 @@ pub(crate) fn stop_of(broken: Broken) -> Stop
 }
 
 /// The pay table and the log that the bytes say.
-#[tactic(auto, unfolding(vp_answer::specs::Inputs::section_input))]
+#[tactic(auto, unfolding(vp_pay::specs::Inputs::section_input))]
 pub(crate) fn read_replay_input(bytes: &[u8]) -> Result<(PayTable, Log<'_>), Refused>
     requires { length bytes.now ≤ 67108864 }
     ensures says { Reads (λ read. read) result (replay_input bytes.now) }

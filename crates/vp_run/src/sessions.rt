@@ -11,7 +11,7 @@ ghost use Rattle.vp_replay.specs.Rules.{break_in};
 ghost use Rattle.vp_csv.specs.Sessions.{session_at};
 ghost use Rattle.vp_answer.specs.Answers.{record_refusal};
 ghost use Rattle.vp_answer.specs.Outcome.{Served};
-ghost use Rattle.vp_answer.specs.Reads.{Reads};
+ghost use Rattle.vp_pay.specs.Reads.{Reads};
 ghost use Rattle.vp_run.specs.Sessions.{log_answer, session_text, sessions_input, sessions_text, status_by, unlawful};
 
 use crate::replay::{first_break, stop_of};

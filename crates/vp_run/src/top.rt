@@ -5,7 +5,7 @@ ghost use Rattle.vp_answer.specs.Answers.{answer_read};
 ghost use Rattle.vp_answer.specs.Closing.{TookNothing};
 ghost use Rattle.vp_answer.specs.Outcome.{Outcome, Unread};
 ghost use Rattle.vp_run.specs.Answer.{answer, job_answer, job_of, needs_input, tables_answer, usage};
-ghost use Rattle.vp_run.specs.Commands.{InRange};
+ghost use Rattle.vp_command.specs.Commands.{InRange};
 
 use crate::command::{Command, Task, command_of};
 use crate::job::job_of;

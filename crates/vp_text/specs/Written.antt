@@ -1,6 +1,7 @@
 -- How words are written: one space between the words of a line, and a line feed at its end. This is this program's own rule
 -- (docs/FORMATS.md).
-use Rattle.std.specs.Prelude.{ℕ, ◌<◌, Bool, ◌||◌, not, ◌==◌, IsTrue, List, [], ◌∷◌, ◌++◌, length, flat_map, if◌then◌else◌}
+use Rattle.std.specs.Prelude.{ℕ, ◌<◌, Bool, ◌||◌, not, ◌==◌, IsTrue, List, [], ◌∷◌, ◌++◌, length, flat_map, if◌then◌else◌, codes}
+use Rattle.std.specs.Fmt.{decimal}
 use Rattle.std.specs.List.{AllByRecursion}
 use Rattle.vp_text.specs.Lines.{Word, is_blank, is_empty}
 use Rattle.vp_text.specs.Sections.{Text}
@@ -26,6 +27,10 @@ line_of words = spaced words ++ 10 ∷ []
 
 abbrev pub written : Text → List ℕ
 written text = flat_map line_of text
+
+-- a fraction: a number, `/` and the number that it stands over
+abbrev pub fraction : ℕ → ℕ → List Word
+fraction over under = decimal over ∷ codes "/" ∷ decimal under ∷ []
 
 -- a byte that stands for itself wherever it stands in a word: no blank, line feed, carriage return or `#`
 abbrev pub is_plain : ℕ → Bool

@@ -11,9 +11,9 @@ use Rattle.vp_answer.specs.declared.status.Status.TheVariants.{Done, Finding, Us
 use Rattle.vp_text.specs.Lines.{Word}
 use Rattle.vp_run.specs.Answer.{answer, answer_to, needs_input}
 use Rattle.vp_run.specs.Arguments.{Ended}
-use Rattle.vp_run.specs.Commands.{command_of, reads}
-use Rattle.vp_run.specs.declared.command.Command.{Command}
-use Rattle.vp_run.specs.declared.command.Command.TheVariants.{Over, Tables}
+use Rattle.vp_command.specs.Commands.{command_of, reads}
+use Rattle.vp_command.specs.declared.command.Command.{Command}
+use Rattle.vp_command.specs.declared.command.Command.TheVariants.{Over, Tables}
 use Rattle.vpoker_c.specs.Ends.{Ends, Holds, IsAnswered, IsCut, IsUntouched, IsWhole}
 use Rattle.vpoker_c.specs.Keeping.{Kept, told_by}
 

@@ -1,4 +1,4 @@
-use Rattle.vp_answer.proofs.Inputs.{tables_read}
+use Rattle.vp_pay.proofs.Inputs.{tables_read}
 use Rattle.vp_run.specs.Deal.{has_bet}
 use Rattle.vp_run.proofs.laws.play_inputs_are_read.Goals as goal
 

@@ -16,7 +16,7 @@ use Rattle.vp_pay.specs.Table.{IsTable}
 use Rattle.vp_pay.specs.declared.table.PayTable.{PayTable}
 use Rattle.vp_pay.proofs.Deals.{Exact-deal, hand_at-is}
 use Rattle.vp_pay.proofs.Tables.{Exact-table}
-use Rattle.vp_answer.specs.Inputs.{AreRead, HandsAreRead, RefusesSection, RefusesTable, SpellsSection, TablesAreRead, section_input, table_input}
+use Rattle.vp_pay.specs.Inputs.{AreRead, HandsAreRead, RefusesSection, RefusesTable, SpellsSection, TablesAreRead, section_input, table_input}
 
 -- ---- a section, and none behind it
 

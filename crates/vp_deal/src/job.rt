@@ -1,24 +1,23 @@
 //! `deal`: the best hold of one hand.
 
-ghost use Rattle.std.specs.Prelude.{◌≡◌, ◌≤◌, IfOk, length};
+ghost use Rattle.std.specs.Prelude.{◌≡◌, ◌≤◌, length};
 ghost use Rattle.vp_card.specs.Cards.{held};
 ghost use Rattle.vp_count.specs.Table.{first_word};
 ghost use Rattle.vp_io.specs.Puts.{Puts};
 ghost use Rattle.vp_text.specs.Written.{written};
-ghost use Rattle.vp_answer.specs.Reads.{Reads};
-ghost use Rattle.vp_run.specs.Deal.{IsDealt, deal_input, figure_lines, figures};
+ghost use Rattle.vp_deal.specs.Deal.{IsDealt, figure_lines, figures};
 
 use std::marker::Model;
+use vp_answer::{Stop, Work};
 use vp_card::{Card, Hand};
 use vp_count::table_words;
 use vp_draws::Best;
 use vp_hold::Game;
 use vp_io::{Sink, WriteFault};
 use vp_lines::{Word, put_lines};
-use vp_pay::{PayTable, read_deal};
-use vp_region::Region;
+use vp_pay::{HasBet, PayTable, read_input};
+use vp_region::Carver;
 use vp_sets::common;
-use vp_text::{Lines, Refused};
 
 /// A bet on a pay table, and a hand of its deck.
 #[derive(Drop)]
@@ -29,7 +28,7 @@ pub struct DealJob {
 }
 
 impl Model for DealJob {
-    ghost use Rattle.vp_run.specs.Deal.{Dealt, IsDealt};
+    ghost use Rattle.vp_deal.specs.Deal.{Dealt, IsDealt};
 
     ghost Value = { Dealt };
 
@@ -39,33 +38,34 @@ impl Model for DealJob {
 }
 
 impl DealJob {
-    ghost use Rattle.std.specs.Prelude.{◌≡◌, ◌≤◌};
-    ghost use Rattle.vp_count.specs.Table.{first_word};
-    ghost use Rattle.vp_io.specs.Puts.{Puts};
-    ghost use Rattle.vp_run.specs.Deal.{IsDealt, deal_lines};
-    ghost use Rattle.vp_text.specs.Written.{written};
+    ghost use Rattle.std.specs.Prelude.{◌≡◌, ◌≤◌, length};
+    ghost use Rattle.vp_deal.specs.Deal.{deal_job};
 
-    pub(crate) fn new(table: PayTable, coin: u8, hand: Hand) -> DealJob
-        requires { IsDealt (record { table = table; coin = coin; hand = hand }) }
-        ensures { result ≡ record { table = table; coin = coin; hand = hand } }
+    /// What the bytes leave to do for a bet: a pay table that has it, and a deal from its deck.
+    pub fn read(coin: u8, bytes: &[u8]) -> Result<DealJob, Stop>
+        requires some { 1 ≤ coin }
+        requires limit { length bytes.now ≤ 67108864 }
+        ensures { result ≡ deal_job coin bytes.now }
     {
-        DealJob { table, coin, hand }
+        let (table, hand) = read_input::<Hand, HasBet>(bytes, &HasBet { coin })?;
+        Ok(DealJob { table, coin, hand })
     }
+}
 
-    /// How many words of 64 bits it needs: a table of sums.
-    pub(crate) fn words(&self) -> usize
-        ensures { result ≡ first_word self.now.table.deck 6 }
-    {
+impl Work for DealJob {
+    ghost use Rattle.vp_deal.specs.Deal.{deal_due, deal_some};
+
+    ghost due = { deal_due };
+
+    ghost some_text = { deal_some };
+
+    /// A table of sums.
+    fn words(&self) -> usize {
         table_words(self.table.deck)
     }
 
-    /// Puts the four lines of the hand.
-    pub(crate) fn put<K: Sink>(&self, region: &mut Region, sink: &mut K) -> Result<(), WriteFault>
-        requires { first_word self.now.table.deck 6 ≤ region.old }
-        ensures puts { Puts (K.told sink.old) (K.told sink.new) result (written (deal_lines self.now)) }
-        ensures same { region.new ≡ region.old }
-    {
-        let mut carver = region.carve();
+    fn put<K: Sink>(&self, memory: &mut [u64], sink: &mut K) -> Result<(), WriteFault> {
+        let mut carver = Carver::over(memory);
         let words = carver.take_as_it_is(table_words(self.table.deck)).unwrap();
         let figures = figures_of(&self.table, self.coin, &self.hand, words);
         put_deal(&self.hand, figures, sink)
@@ -80,13 +80,7 @@ fn figures_of(table: &PayTable, coin: u8, hand: &Hand, words: &mut [u64]) -> (Be
     ensures { result ≡ figures (record { table = table.now; coin = coin; hand = hand.now }) }
 {
     let game = Game::of(table, coin, words);
-    let best = game.best(hand);
-    let best = Best {
-        mask: best.mask,
-        value: best.value,
-        ties: best.ties,
-    };
-    (best, game.value(hand, 31), common(table.deck))
+    (game.best(hand), game.value(hand, 31), common(table.deck))
 }
 
 /// Puts the four lines of a hand.
@@ -123,25 +117,4 @@ fn put_figures<'a, K: Sink>(
     ];
     let ties = [Word::Text(b"ties"), Word::Number(best.ties as u128)];
     put_lines(&[&deal, &hold, &all, &ties], sink)
-}
-
-/// The pay table and the hand that the bytes say, for a bet of `coin`.
-#[tactic(auto, unfolding(vp_answer::specs::Inputs::section_input))]
-pub(crate) fn read_deal_input(bytes: &[u8], coin: u8) -> Result<(PayTable, Hand), Refused>
-    requires some { 1 ≤ coin }
-    requires limit { length bytes.now ≤ 67108864 }
-    ensures says { Reads (λ read. read) result (deal_input coin bytes.now) }
-    ensures dealt { IfOk result (λ read. IsDealt (record { table = read.0; coin = coin; hand = read.1 })) }
-{
-    let mut lines = Lines::new(bytes);
-    let table = PayTable::read(&mut lines)?;
-    if table.coins < coin {
-        return Err(Refused { line: lines.last() });
-    }
-    let hand = read_deal(&mut lines, table.deck)?;
-    let _cards = hand.numbers();
-    match lines.next() {
-        None => Ok((table, hand)),
-        Some(words) => Err(Refused { line: words.line() }),
-    }
 }

@@ -15,15 +15,9 @@ use Rattle.vp_suit.specs.Classes.{IsDeal}
 use Rattle.vp_suit.proofs.TurnedDraws.{dealt_is}
 use Rattle.vp_draws.specs.Draws.{IsPrinted, best, least_best}
 use Rattle.vp_draws.proofs.Chosen.{printed}
-use Rattle.vp_answer.specs.Answers.{Answer, answer_read, done}
-use Rattle.vp_answer.proofs.Inputs.{hands_read}
-use Rattle.vp_run.specs.Answer.{answer, deal_job, job_answer, read_as}
-use Rattle.vp_run.specs.Commands.{command_of}
-use Rattle.vp_run.specs.Deal.{deal_input, deal_lines, has_bet}
-use Rattle.vp_run.specs.EveryDeal.{DealsPrintBestHolds}
-use Rattle.vp_run.specs.declared.command.Command.TheVariants.{Over}
-use Rattle.vp_run.specs.declared.command.Task.TheVariants.{Deal}
-use Rattle.vp_run.proofs.NoCommand.{answer_as}
+use Rattle.vp_pay.proofs.Inputs.{hands_read}
+use Rattle.vp_pay.specs.Inputs.{has_bet}
+use Rattle.vp_deal.specs.DealTells.{DealsPrintBestHolds}
 
 absent_none : (card : ℕ) (cards : List ℕ) → absent card cards ≡ true → times card cards ≡ 0
 absent_none card [] none = refl
@@ -53,19 +47,12 @@ dealt_set n cards dealt = record {
   set = set_from n (in_order cards) (rising-joined cards [] tt (λ card. rw (append-nil cards) (once cards dealt.differ card))) (below_in_deck n (in_order cards) (in_deck-in_order n cards dealt.below));
 }
 
--- the answer of `deal` to what its input says
-deal_as : (words : List Word) (coin : ℕ) (bytes : List ℕ) (table : PayTable) (hand : List ℕ) → command_of words ≡ Some (Over (Deal coin)) → deal_input coin bytes ≡ Ok (table, hand)
-    → done (written (deal_lines (record { table = table; coin = coin; hand = hand }))) ≡ answer words bytes
-deal_as words coin bytes table hand is says =
-    ap (λ r. answer_read job_answer (read_as (deal_job coin) r)) (sym says) ∙ answer_as words (Some (Over (Deal coin))) bytes is
-
 pub deals_print : DealsPrintBestHolds
-deals_print words coin bytes table hand is says =
-    let due = deal_as words coin bytes table hand is says in
+deals_print coin bytes table hand says =
     let found = ((hands_read (has_bet coin)).spelled bytes (table, hand)).0 says in
     record {
-      status = ap (λ (a : Answer). a.status) (sym due);
-      text = ap (λ (a : Answer). a.text) (sym due);
+      status = refl;
+      text = refl;
       printed = subst (λ (h : List ℕ). IsPrinted table coin h (least_best table coin h) (best table coin h)) (sym found.2)
           (printed table coin (in_order found.0) found.1.0.0 (dealt_is table.deck (in_order found.0) (dealt_set table.deck found.0 found.1.0.1)));
     }

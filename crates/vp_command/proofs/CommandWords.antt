@@ -9,11 +9,11 @@ use Rattle.vp_text.specs.Pieces.{◌>>=◌}
 use Rattle.vp_text.proofs.Numbers.{number_exact, number_within_exact}
 use Rattle.vp_pay.specs.Names.{is_name}
 use Rattle.vp_text.proofs.Pieces.{bound, chosen}
-use Rattle.vp_run.specs.Commands.{AreInRange, CommandsAreSpelled, InRange, alone, bet, check, coin_of, command_of, command_words, meter, task_of, task_words, multi, play, compile}
-use Rattle.vp_run.specs.declared.command.Command.{Command}
-use Rattle.vp_run.specs.declared.command.Command.TheVariants.{Over, Tables}
-use Rattle.vp_run.specs.declared.command.Task.{Task}
-use Rattle.vp_run.specs.declared.command.Task.TheVariants.{Certify, Check, Deal, Replay, Sessions, Meter, Audit, Multi, Play, Compile, Cross, Hits}
+use Rattle.vp_command.specs.Commands.{AreInRange, CommandsAreSpelled, InRange, alone, bet, check, coin_of, command_of, command_words, meter, task_of, task_words, multi, play, compile}
+use Rattle.vp_command.specs.declared.command.Command.{Command}
+use Rattle.vp_command.specs.declared.command.Command.TheVariants.{Over, Tables}
+use Rattle.vp_command.specs.declared.command.Task.{Task}
+use Rattle.vp_command.specs.declared.command.Task.TheVariants.{Certify, Check, Deal, Replay, Sessions, Meter, Audit, Multi, Play, Compile, Cross, Hits}
 
 -- the words spell the task, and its numbers are in range
 abbrev Spells : List Word → Task → Type 0

@@ -1,8 +1,8 @@
 //! The commands, as the words of the command line spell them.
 
 ghost use Rattle.std.specs.Prelude.{◌≡◌, ◌≤◌, ℕ, map, option_map, IfSome};
-ghost use Rattle.vp_run.specs.Commands.{AreInRange, InRange, alone, bet, check, coin_of, command_of, lines_of, task_of, meter, meter_of, hands_of, multi, play, play_of, compile, compile_of};
-ghost use Rattle.vp_run.specs.declared.command.Task.{Task};
+ghost use Rattle.vp_command.specs.Commands.{AreInRange, InRange, alone, bet, check, coin_of, command_of, lines_of, task_of, meter, meter_of, hands_of, multi, play, play_of, compile, compile_of};
+ghost use Rattle.vp_command.specs.declared.command.Task.{Task};
 ghost use Rattle.vp_text.specs.Numbers.{number_within};
 
 use vp_pay::Name;
@@ -71,7 +71,7 @@ pub enum Command {
 
 /// The command that the words are.
 #[tactic(auto, unfolding(crate::specs::Commands::command_of))]
-pub(crate) fn command_of(words: &[&str]) -> Option<Command>
+pub fn command_of(words: &[&str]) -> Option<Command>
     ensures is { result ≡ command_of (map (λ w. w.now) words.now) }
     ensures range { IfSome result AreInRange }
 {

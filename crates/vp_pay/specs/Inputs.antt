@@ -1,5 +1,5 @@
 -- What an input says: a pay table that fits, alone or with a section behind it (docs/FORMATS.md).
-use Rattle.std.specs.Prelude.{◌≡◌, ◌↔◌, ℕ, Bool, IsTrue, List, Result, Ok, Err, ◌⊎◌}
+use Rattle.std.specs.Prelude.{◌≡◌, ◌↔◌, ℕ, Bool, true, nat_le, IsTrue, List, Result, Ok, Err, ◌⊎◌}
 use Rattle.vp_card.specs.Cards.{in_order}
 use Rattle.vp_text.specs.ExactReaders.{Reader}
 use Rattle.vp_text.specs.Lines.{feed_of}
@@ -15,6 +15,16 @@ use Rattle.vp_pay.specs.declared.table.PayTable.{PayTable}
 pub record AreRead {A : Type 0} (input : List ℕ → Result A ℕ) (Spelled : List ℕ → A → Type 0) (RefusedAt : List ℕ → ℕ → Type 0) : Type 0 where
   pub spelled : (bytes : List ℕ) (value : A) → input bytes ≡ Ok value ↔ Spelled bytes value
   pub refused : (bytes : List ℕ) (line : ℕ) → input bytes ≡ Err line ↔ RefusedAt bytes line
+
+-- ---- which tables fit
+
+-- every table fits
+abbrev pub fits_all : PayTable → Bool
+fits_all table = true
+
+-- the table has a column for a bet of at least 1
+abbrev pub has_bet : ℕ → PayTable → Bool
+has_bet coin table = nat_le coin table.coins
 
 -- ---- a pay table that fits, and nothing else
 

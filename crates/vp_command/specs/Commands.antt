@@ -5,10 +5,10 @@ use Rattle.vp_text.specs.Lines.{Word}
 use Rattle.vp_text.specs.Numbers.{number_of, number_within}
 use Rattle.vp_text.specs.Pieces.{◌>>=◌}
 use Rattle.vp_pay.specs.Names.{is_name}
-use Rattle.vp_run.specs.declared.command.Command.{Command}
-use Rattle.vp_run.specs.declared.command.Command.TheVariants.{Over, Tables}
-use Rattle.vp_run.specs.declared.command.Task.{Task}
-use Rattle.vp_run.specs.declared.command.Task.TheVariants.{Certify, Check, Deal, Replay, Sessions, Meter, Audit, Multi, Play, Compile, Cross, Hits}
+use Rattle.vp_command.specs.declared.command.Command.{Command}
+use Rattle.vp_command.specs.declared.command.Command.TheVariants.{Over, Tables}
+use Rattle.vp_command.specs.declared.command.Task.{Task}
+use Rattle.vp_command.specs.declared.command.Task.TheVariants.{Certify, Check, Deal, Replay, Sessions, Meter, Audit, Multi, Play, Compile, Cross, Hits}
 
 -- ---- how a command is spelled
 

@@ -1,0 +1,2 @@
+pub mod DealTells
+pub mod DealInputs

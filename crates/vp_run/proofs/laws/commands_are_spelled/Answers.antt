@@ -1,5 +1,0 @@
-use Rattle.vp_run.proofs.CommandWords.{commands_spelled}
-use Rattle.vp_run.proofs.laws.commands_are_spelled.Goals as goal
-
-pub returns : goal.returns
-returns c = commands_spelled

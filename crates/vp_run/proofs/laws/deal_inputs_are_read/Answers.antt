@@ -1,6 +1,0 @@
-use Rattle.vp_answer.proofs.Inputs.{hands_read}
-use Rattle.vp_run.specs.Deal.{has_bet}
-use Rattle.vp_run.proofs.laws.deal_inputs_are_read.Goals as goal
-
-pub returns : goal.returns
-returns c coin = hands_read (has_bet coin)
