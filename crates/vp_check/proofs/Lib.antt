@@ -13,3 +13,6 @@ pub mod Answered
 pub mod PlainCertificates
 pub mod FewClasses
 pub mod ShortTexts
+pub mod CheckInputs
+pub mod CheckTells
+pub mod CheckedInParts

@@ -11,3 +11,6 @@ pub mod EveryDeal
 pub mod Parts
 pub mod Walks
 pub mod Answers
+pub mod CheckJob
+pub mod CheckTells
+pub mod CheckedInParts

@@ -5,6 +5,9 @@ ghost use Rattle.vp_pay.specs.Bets.{IsBet};
 ghost use Rattle.vp_pay.specs.Table.{IsTable};
 ghost use Rattle.vp_pay.specs.declared.table.PayTable.{PayTable};
 ghost use Rattle.vp_check.specs.Certificates.{Certificate, IsCertificate};
+ghost use Rattle.vp_check.specs.CheckJob.{CertificatesAreJudged, CheckInputsAreEither, CheckInputsAreRefused};
+ghost use Rattle.vp_check.specs.CheckTells.{ChecksTellEveryDeal, ChecksTellWalkedDeals};
+ghost use Rattle.vp_check.specs.CheckedInParts.{PartsTellEveryDeal, PartsTellWalkedDeals};
 ghost use Rattle.vp_check.specs.EveryDeal.{TellsEveryDeal, TellsWalkedDeals};
 ghost use Rattle.vp_check.specs.Truth.{HasAllClasses, HasLeastBestMasks, IsTrueCertificate, IsTrueOver, KeepsRules, OfEachWalk, due_certificate};
 ghost use Rattle.vp_check.specs.Parts.{WalksJoin, WalksTellEveryDeal};
@@ -53,4 +56,27 @@ pub fn due_certificate_is_true()
     // There is no other.
     ensures only { (table : PayTable) (coin : ℕ) (c : Certificate) → IsCertificate c → IsTrueCertificate c
         → c.table ≡ table → c.coin ≡ coin → HasLeastBestMasks table coin c → c ≡ due_certificate table coin }
+{}
+
+/// What `check` takes for its input is what the lines of the input spell: a certificate in the grammar, and nothing else.
+/// It is answered by its first broken rule, where there is one. Every other input is refused, exactly at its refused line.
+pub fn check_inputs_are_read()
+    ensures judged { CertificatesAreJudged }
+    ensures refused { CheckInputsAreRefused }
+    ensures either { CheckInputsAreEither }
+{}
+
+/// A certificate that `check` finds no fault with, all class lines being walked, tells every deal.
+pub fn checks_tell_deals()
+    ensures every { ChecksTellEveryDeal }
+    // Where some class lines are walked, the holds that are printed on these lines are told so.
+    ensures walked { ChecksTellWalkedDeals }
+{}
+
+/// Many calls of `check` on one certificate, each of which walks some of its class lines, tell what one call tells that
+/// walks them all: where each is a yes, and each class line of a range is walked by some of them, they tell the deals of
+/// these lines; where each class line is, they tell every deal.
+pub fn checks_in_parts_tell_every_deal()
+    ensures range { PartsTellWalkedDeals }
+    ensures all { PartsTellEveryDeal }
 {}

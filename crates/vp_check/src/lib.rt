@@ -6,6 +6,7 @@ mod class_line;
 mod class_lines;
 mod class_words;
 mod finding;
+mod job;
 mod laws;
 mod listed;
 mod numbered;
@@ -17,9 +18,10 @@ mod walk;
 pub use checker::check;
 pub use class_line::ClassLine;
 pub use finding::{CertRule, Checked, Finding};
+pub use job::check_job;
 pub use laws::{
-    certificates_keep_rules, checks_join, due_certificate_is_true, true_certificates,
-    walked_lines_tell_their_deals,
+    certificates_keep_rules, check_inputs_are_read, checks_in_parts_tell_every_deal, checks_join,
+    checks_tell_deals, due_certificate_is_true, true_certificates, walked_lines_tell_their_deals,
 };
 pub use spellings::{
     certificate_spellings_differ, certificates_are_spelled, lines_have_numbers,

@@ -9,3 +9,4 @@ pub mod Tables
 pub mod Values
 pub mod LineWords
 pub mod Inputs
+pub mod FittingBets

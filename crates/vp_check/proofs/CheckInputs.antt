@@ -7,7 +7,7 @@ use Rattle.vp_check.specs.Rules.{first_break}
 use Rattle.vp_check.specs.Spelling.{RefusesCertificate, SpellsCertificate}
 use Rattle.vp_check.proofs.Answered.{refused_tells, verdict_is}
 use Rattle.vp_check.proofs.Certificates_grammar.{certificate_again, certificate_found, certificate_stops}
-use Rattle.vp_run.specs.Check.{CertificatesAreJudged, CheckInputsAreRefused, CheckInputsAreEither}
+use Rattle.vp_check.specs.CheckJob.{CertificatesAreJudged, CheckInputsAreRefused, CheckInputsAreEither}
 
 pub judged : CertificatesAreJudged
 judged from count bytes c spells = verdict_is bytes from count c (first_break from count c) (certificate_again bytes c spells) refl

@@ -1,22 +1,17 @@
 -- A certificate that is checked part by part, by many calls of `check`.
-use Rattle.std.specs.Prelude.{◌≡◌, ℕ, ◌≤◌, List, Some, length}
+use Rattle.std.specs.Prelude.{◌≡◌, ℕ, ◌≤◌, List, Ok, length}
 use Rattle.std.specs.List.{All}
-use Rattle.vp_text.specs.Lines.{Word}
 use Rattle.vp_check.specs.Certificates.{Certificate}
+use Rattle.vp_check.specs.CheckJob.{check_job}
 use Rattle.vp_check.specs.EveryDeal.{TellsEveryDeal, TellsWalkedDeals}
 use Rattle.vp_check.specs.Parts.{AreWalked, Walk}
 use Rattle.vp_check.specs.Spelling.{SpellsCertificate}
-use Rattle.vp_answer.specs.declared.status.Status.TheVariants.{Done}
-use Rattle.vp_run.specs.Answer.{answer}
-use Rattle.vp_command.specs.Commands.{command_of}
-use Rattle.vp_command.specs.declared.command.Command.TheVariants.{Over}
-use Rattle.vp_command.specs.declared.command.Task.TheVariants.{Check}
+use Rattle.vp_check.specs.declared.finding.Checked.{Checked}
 
 -- `check`, walking these class lines, finds no broken rule in this text
 pub record IsYes (bytes : List ℕ) (walk : Walk) : Type 0 where
-  pub words : List Word
-  pub asks : command_of words ≡ Some (Over (Check walk.from walk.count))
-  pub yes : (answer words bytes).status ≡ Done
+  pub said : Checked
+  pub yes : check_job walk.from walk.count bytes ≡ Ok said
 
 -- some calls of `check`, of one text, of which each is a yes
 pub record AreYes (bytes : List ℕ) (walks : List Walk) : Type 0 where

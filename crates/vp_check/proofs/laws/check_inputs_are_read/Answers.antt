@@ -1,6 +1,6 @@
 -- All are laws of the definitions.
-use Rattle.vp_run.proofs.CheckInputs.{check_either, check_refusals, judged}
-use Rattle.vp_run.proofs.laws.check_inputs_are_read.Goals as goal
+use Rattle.vp_check.proofs.CheckInputs.{check_either, check_refusals, judged}
+use Rattle.vp_check.proofs.laws.check_inputs_are_read.Goals as goal
 
 pub returns-clause-judged : goal.returns-clause-judged
 returns-clause-judged c = judged

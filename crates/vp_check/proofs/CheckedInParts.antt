@@ -5,14 +5,14 @@ use Rattle.vp_check.specs.Parts.{AreTrueWalks, Walk}
 use Rattle.vp_check.specs.Spelling.{SpellsCertificate}
 use Rattle.vp_check.proofs.EveryDeals.{walked_tell}
 use Rattle.vp_check.proofs.JoinedWalks.{walks_join, walks_tell}
-use Rattle.vp_run.specs.CheckedInParts.{AreYes, PartsTellEveryDeal, PartsTellWalkedDeals}
-use Rattle.vp_run.proofs.EveryDeals.{check_true}
+use Rattle.vp_check.specs.CheckedInParts.{AreYes, PartsTellEveryDeal, PartsTellWalkedDeals}
+use Rattle.vp_check.proofs.CheckTells.{check_true}
 
 -- calls that are a yes find no broken rule
 true_walks : (bytes : List ℕ) (c : Certificate) (walks : List Walk) → SpellsCertificate bytes c → AreYes bytes walks → AreTrueWalks walks c
 true_walks bytes c walks spells all = record {
   some = all.some;
-  each = λ i d l. let one = all.each i d l in check_true one.words _ _ bytes c one.asks spells one.yes;
+  each = λ i d l. let one = all.each i d l in check_true _ _ bytes c one.said spells one.yes;
 }
 
 pub parts_tell_walked : PartsTellWalkedDeals
