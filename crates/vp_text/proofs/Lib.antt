@@ -11,6 +11,7 @@ pub mod Writing
 pub mod Comments
 pub mod Room
 pub mod Pieces
+pub mod Sequences
 pub mod Numbers
 pub mod Digits
 pub mod WithWords
