@@ -5,8 +5,8 @@ use Rattle.vp_sets.proofs.Pascal.{choose_five}
 use Rattle.vp_count.proofs.Scan.{set_wider}
 use Rattle.vp_count.specs.Runs.{run}
 use Rattle.vp_count.proofs.HandNumbers.{Written, written_start, written_room, written_more, written_done, written_whole}
-use Rattle.vp_hits.specs.Numbers.{told}
-use Rattle.vp_hits.proofs.line_numbers.write_numbers.Goals as goal
+use Rattle.vp_hold.specs.Numbers.{by_line}
+use Rattle.vp_hold.proofs.line_numbers.write_numbers.Goals as goal
 
 pub loop-init : goal.loop-init
 loop-init g c = record {
@@ -33,7 +33,7 @@ offset_bounds-words-first g c = omega (
 
 pub slice_bounds-write_run-end : goal.slice_bounds-write_run-end
 slice_bounds-write_run-end g c =
-    written_room c.args.table.now.deck (told c.args.table.now c.args.numbers.now) c.loop.words c.loop.upper c.loop.counter c.loop.first (omega (arith, c.choose-end.ensures)) c.loop.invariant.written
+    written_room c.args.table.now.deck (by_line c.args.table.now c.args.numbers.now) c.loop.words c.loop.upper c.loop.counter c.loop.first (omega (arith, c.choose-end.ensures)) c.loop.invariant.written
 
 pub write_run-requires-clause-few : goal.write_run-requires-clause-few
 write_run-requires-clause-few g c = subst (λ (t : PayTable). length t.lines.items ≤ 32) (sym c.loop.invariant.table) c.requires.rules.most_lines
@@ -50,10 +50,10 @@ next_set-requires-clause-set g c = (c.loop.invariant.written.next (omega (arith,
 pub loop-preserved : goal.loop-preserved
 loop-preserved g c =
     let many : c.loop.first + get_or c.loop.upper 0 0 - c.loop.first ≡ get_or c.loop.upper 0 0 = omega arith in
-    let written : c.write_run.new.words ≡ map (told c.args.table.now c.args.numbers.now) (run c.loop.upper) =
-    c.write_run.ensures.numbers ∙ ap (λ (t : PayTable). map (told t c.args.numbers.now) (run c.loop.upper)) c.loop.invariant.table in
+    let written : c.write_run.new.words ≡ map (by_line c.args.table.now c.args.numbers.now) (run c.loop.upper) =
+    c.write_run.ensures.numbers ∙ ap (λ (t : PayTable). map (by_line t c.args.numbers.now) (run c.loop.upper)) c.loop.invariant.table in
     record {
-      written = subst (λ k. Written c.args.table.now.deck (told c.args.table.now c.args.numbers.now) (put_mid c.loop.first (c.loop.first + get_or c.loop.upper 0 0 - c.loop.first) c.loop.words c.write_run.new.words) c.next_set.new.set (c.loop.counter + 1) (c.loop.first + k)) many
+      written = subst (λ k. Written c.args.table.now.deck (by_line c.args.table.now c.args.numbers.now) (put_mid c.loop.first (c.loop.first + get_or c.loop.upper 0 0 - c.loop.first) c.loop.words c.write_run.new.words) c.next_set.new.set (c.loop.counter + 1) (c.loop.first + k)) many
           (written_more _ _ c.loop.words c.loop.upper c.next_set.new.set c.write_run.new.words c.loop.counter c.loop.first (c.loop.first + get_or c.loop.upper 0 0 - c.loop.first) c.next_set.result (omega (arith, c.choose-end.ensures)) c.loop.invariant.written many written
           (record { more_is = c.next_set.ensures.more; next = c.next_set.ensures.next }));
       steps = omega (arith, c.write_run.ensures.steps, c.loop.invariant.steps);

@@ -3,9 +3,9 @@ use Rattle.vp_pay.specs.declared.table.PayTable.{PayTable}
 use Rattle.vp_sets.specs.Index.{IsSet}
 use Rattle.vp_count.proofs.HandNumbers.{four_upper, lower_is_set, run_start, run_more, run_done}
 use Rattle.vp_wild.specs.Payment.{line}
-use Rattle.vp_hits.specs.Numbers.{number_of, told}
-use Rattle.vp_hits.proofs.Chances.{within}
-use Rattle.vp_hits.proofs.line_numbers.write_run.Goals as goal
+use Rattle.vp_hold.specs.Numbers.{number_of, by_line}
+use Rattle.vp_hold.proofs.Numbers.{within}
+use Rattle.vp_hold.proofs.line_numbers.write_run.Goals as goal
 
 pub loop-low-init : goal.loop-low-init
 loop-low-init g c = record { run = run_start _ c.args.upper.now c.args.words.now c.requires.long; steps = omega arith; same = refl }
@@ -25,7 +25,7 @@ loop-low-preserved g c =
     c.line-found.ensures.line
     ∙ ap (λ (s : List ℕ). line c.loop-low.kept (c.loop-low.low ∷ s)) (four_upper c.args.upper.now c.requires.four)
     ∙ ap (λ (t : PayTable). line t hand) c.loop-low.invariant.same in
-    let number : c.number_at.result ≡ told c.args.kept.now c.args.numbers.now hand = c.number_at.ensures ∙ ap (λ (o : Option ℕ). number_of c.args.numbers.now o) found in
+    let number : c.number_at.result ≡ by_line c.args.kept.now c.args.numbers.now hand = c.number_at.ensures ∙ ap (λ (o : Option ℕ). number_of c.args.numbers.now o) found in
     record {
       run = run_more _ c.args.upper.now c.loop-low.words c.loop-low.low c.number_at.result c.loop-low-test.true number c.loop-low.invariant.run;
       steps = omega (arith, c.line-found.ensures.step, c.loop-low.invariant.steps);
