@@ -3,3 +3,6 @@ pub mod Costs
 pub mod Totals
 pub mod ByClasses
 pub mod CostLaws
+pub mod CrossInputs
+pub mod CrossLines
+pub mod CrossTells

@@ -13,9 +13,8 @@ use Rattle.vp_pay.specs.Spelling.{table_text}
 use Rattle.vp_pay.specs.Table.{IsTable}
 use Rattle.vp_pay.specs.declared.table.PayTable.{PayTable}
 use Rattle.vp_pay.proofs.Tables.{Exact-table}
-use Rattle.vp_pay.specs.Inputs.{section_input}
-use Rattle.vp_run.specs.Cross.{AreTables, CrossInputsAreRead, IsNowhere, MisfitFirst, MisfitSecond, RefusesTables, SpellsTables, crosses, two_texts}
-use Rattle.vp_run.specs.Deal.{has_bet}
+use Rattle.vp_pay.specs.Inputs.{has_bet, section_input}
+use Rattle.vp_cross.specs.Cross.{AreTables, CrossInputsAreRead, IsNowhere, MisfitFirst, MisfitSecond, RefusesTables, SpellsTables, crosses, two_texts}
 
 module _ (coin : ℕ) (bytes : List ℕ) where
   abbrev feed : Feed

@@ -8,8 +8,8 @@ use Rattle.vp_sets.specs.Sets.{choose}
 use Rattle.vp_sets.specs.Draws.{common}
 use Rattle.vp_draws.specs.Draws.{return_denominator}
 use Rattle.vp_multi.specs.declared.several_hands.MomentSums.{MomentSums}
-use Rattle.vp_run.specs.Multi.{moment_lines}
-use Rattle.vp_run.proofs.multi.put_moments.Goals as goal
+use Rattle.vp_multi.specs.Multi.{moment_lines}
+use Rattle.vp_multi.proofs.job.put_moments.Goals as goal
 
 same_lines : (old new : Told) (result : Result (Unit {0}) WriteFault) (sums : MomentSums) (n all under : ℕ) → all ≡ return_denominator n 1 → under ≡ common n
     → Puts old new result (written (moment_lines sums all under)) → Puts old new result (written (moment_lines sums (choose n 5 * common n) (common n)))

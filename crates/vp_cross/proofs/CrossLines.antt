@@ -4,7 +4,7 @@ use Rattle.std.proofs.lemmas.List.Concat.{flat_map-append}
 use Rattle.vp_text.specs.Written.{line_of, written}
 use Rattle.vp_cross.specs.declared.crossed.Crossed.{Crossed}
 use Rattle.vp_cross.specs.declared.crossed.Worst.{Worst}
-use Rattle.vp_run.specs.Cross.{crossed_lines, total_lines, worst_lines, worst_words}
+use Rattle.vp_cross.specs.Cross.{crossed_lines, total_lines, worst_lines, worst_words}
 
 -- the lines of the sums, and then the line of the worst class, if there is one
 pub crossed_text : (c : Crossed) (under : ℕ) → written (crossed_lines c under) ≡ written (total_lines c under) ++ written (worst_lines c.worst)

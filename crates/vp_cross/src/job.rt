@@ -3,19 +3,20 @@
 ghost use Rattle.std.specs.Prelude.{◌≡◌, ◌*◌, ◌≤◌, IfOk, length};
 ghost use Rattle.vp_count.specs.Table.{first_word};
 ghost use Rattle.vp_io.specs.Puts.{Puts};
-ghost use Rattle.vp_text.specs.Written.{line_of, written};
 ghost use Rattle.vp_pay.specs.Reads.{Reads};
-ghost use Rattle.vp_run.specs.Cross.{IsCrossing, cross_input, crossed_lines, crossed_of, total_lines, worst_words};
+ghost use Rattle.vp_text.specs.Written.{line_of, written};
+ghost use Rattle.vp_cross.specs.Cross.{IsCrossing, cross_input, crossed_lines, crossed_of, total_lines, worst_words};
 
+use crate::{Crossed, Worst, cross};
 use std::marker::Model;
+use vp_answer::{Stop, Work};
 use vp_count::table_words;
-use vp_cross::{Crossed, Worst, cross};
 use vp_draws::return_denominator;
 use vp_hold::Game;
 use vp_io::{Sink, WriteFault};
 use vp_lines::{Word, put_lines, put_words};
 use vp_pay::PayTable;
-use vp_region::Region;
+use vp_region::Carver;
 use vp_text::{Lines, Refused};
 
 /// A pay table whose best play is priced by another, for a bet.
@@ -27,7 +28,7 @@ pub struct CrossJob {
 }
 
 impl Model for CrossJob {
-    ghost use Rattle.vp_run.specs.Cross.{Crossing, IsCrossing};
+    ghost use Rattle.vp_cross.specs.Cross.{Crossing, IsCrossing};
 
     ghost Value = { Crossing };
 
@@ -37,46 +38,70 @@ impl Model for CrossJob {
 }
 
 impl CrossJob {
-    ghost use Rattle.std.specs.Prelude.{◌≡◌, ◌*◌, ◌≤◌};
-    ghost use Rattle.vp_count.specs.Table.{first_word};
-    ghost use Rattle.vp_io.specs.Puts.{Puts};
-    ghost use Rattle.vp_run.specs.Cross.{IsCrossing, cross_lines};
-    ghost use Rattle.vp_text.specs.Written.{written};
+    ghost use Rattle.std.specs.Prelude.{◌≡◌, ◌≤◌, length};
+    ghost use Rattle.vp_cross.specs.Cross.{cross_job};
 
-    pub(crate) fn new(played: PayTable, priced: PayTable, coin: u8) -> CrossJob
-        requires { IsCrossing (record { played = played; priced = priced; coin = coin }) }
-        ensures { result ≡ record { played = played; priced = priced; coin = coin } }
+    /// What the bytes leave to do for a bet: two pay tables of one deck that have it.
+    pub fn read(coin: u8, bytes: &[u8]) -> Result<CrossJob, Stop>
+        requires some { 1 ≤ coin }
+        requires limit { length bytes.now ≤ 67108864 }
+        ensures { result ≡ cross_job coin bytes.now }
     {
-        CrossJob {
+        let (played, priced) = two_tables(coin, bytes)?;
+        Ok(CrossJob {
             played,
             priced,
             coin,
-        }
+        })
     }
+}
 
-    /// How many words of 64 bits it needs: a table of sums for each pay table.
-    pub(crate) fn words(&self) -> usize
-        ensures { result ≡ 2 * first_word self.now.played.deck 6 }
-    {
+impl Work for CrossJob {
+    ghost use Rattle.vp_cross.specs.Cross.{cross_due, cross_some};
+
+    ghost due = { cross_due };
+
+    ghost some_text = { cross_some };
+
+    /// A table of sums for each pay table.
+    #[tactic(auto, using(vp_count::proofs::Words::first_word_small))]
+    fn words(&self) -> usize {
         2 * table_words(self.played.deck)
     }
 
     /// Puts what the play costs.
-    pub(crate) fn put<K: Sink>(&self, region: &mut Region, sink: &mut K) -> Result<(), WriteFault>
-        requires { 2 * first_word self.now.played.deck 6 ≤ region.old }
-        ensures puts { Puts (K.told sink.old) (K.told sink.new) result (written (cross_lines self.now)) }
-        ensures same { region.new ≡ region.old }
-    {
+    fn put<K: Sink>(&self, memory: &mut [u64], sink: &mut K) -> Result<(), WriteFault> {
         let many = table_words(self.played.deck);
-        let mut carver = region.carve();
+        let mut carver = Carver::over(memory);
         let words = carver.take_as_it_is(many).unwrap();
         let more = carver.take_as_it_is(many).unwrap();
         let crossed = crossed_of(&self.played, &self.priced, self.coin, words, more);
-        put_crossed(
-            &crossed,
-            return_denominator(self.played.deck, self.coin),
-            sink,
-        )
+        let under = return_denominator(self.played.deck, self.coin);
+        put_crossed(&crossed, under, sink)
+    }
+}
+
+/// The two pay tables that the bytes say, for a bet of `coin`.
+#[tactic(auto, unfolding(vp_pay::specs::Inputs::section_input))]
+fn two_tables(coin: u8, bytes: &[u8]) -> Result<(PayTable, PayTable), Refused>
+    requires some { 1 ≤ coin }
+    requires limit { length bytes.now ≤ 67108864 }
+    ensures says { Reads (λ read. read) result (cross_input coin bytes.now) }
+    ensures crossing { IfOk result (λ read.
+        IsCrossing (record { played = read.0; priced = read.1; coin = coin })) }
+{
+    let mut lines = Lines::new(bytes);
+    let played = PayTable::read(&mut lines)?;
+    if played.coins < coin {
+        return Err(Refused { line: lines.last() });
+    }
+    let priced = PayTable::read(&mut lines)?;
+    if priced.deck != played.deck || priced.coins < coin {
+        return Err(Refused { line: lines.last() });
+    }
+    match lines.next() {
+        None => Ok((played, priced)),
+        Some(words) => Err(Refused { line: words.line() }),
     }
 }
 
@@ -92,7 +117,8 @@ fn crossed_of(
     requires crossing { IsCrossing (record { played = played.now; priced = priced.now; coin = coin }) }
     requires long { length words.old ≡ first_word played.now.deck 6 }
     requires longer { length more.old ≡ first_word played.now.deck 6 }
-    ensures all { result ≡ crossed_of (record { played = played.now; priced = priced.now; coin = coin }) }
+    ensures all { result
+        ≡ crossed_of (record { played = played.now; priced = priced.now; coin = coin }) }
     ensures most { result.value ≤ result.optimum }
 {
     let first = Game::of(played, coin, words);
@@ -110,7 +136,8 @@ fn crossed_of(
 /// Puts what a play costs, its sums over this denominator.
 fn put_crossed<K: Sink>(crossed: &Crossed, under: u64, sink: &mut K) -> Result<(), WriteFault>
     requires { crossed.now.value ≤ crossed.now.optimum }
-    ensures { Puts (K.told sink.old) (K.told sink.new) result (written (crossed_lines crossed.now under)) }
+    ensures { Puts (K.told sink.old) (K.told sink.new) result
+        (written (crossed_lines crossed.now under)) }
 {
     put_totals(crossed, under, sink)?;
     match &crossed.worst {
@@ -122,7 +149,8 @@ fn put_crossed<K: Sink>(crossed: &Crossed, under: u64, sink: &mut K) -> Result<(
 /// Puts the lines of the sums, and of the numbers of classes and deals.
 fn put_totals<K: Sink>(crossed: &Crossed, under: u64, sink: &mut K) -> Result<(), WriteFault>
     requires { crossed.now.value ≤ crossed.now.optimum }
-    ensures { Puts (K.told sink.old) (K.told sink.new) result (written (total_lines crossed.now under)) }
+    ensures { Puts (K.told sink.old) (K.told sink.new) result
+        (written (total_lines crossed.now under)) }
 {
     let under = under as u128;
     let optimum = [
@@ -154,27 +182,4 @@ fn put_worst<K: Sink>(worst: &Worst, sink: &mut K) -> Result<(), WriteFault>
         Word::Number(worst.cost as u128),
     ];
     put_words(&words, sink)
-}
-
-/// The two pay tables that the bytes say, for a bet of `coin`.
-#[tactic(auto, unfolding(vp_pay::specs::Inputs::section_input))]
-pub(crate) fn read_cross_input(bytes: &[u8], coin: u8) -> Result<(PayTable, PayTable), Refused>
-    requires some { 1 ≤ coin }
-    requires limit { length bytes.now ≤ 67108864 }
-    ensures says { Reads (λ read. read) result (cross_input coin bytes.now) }
-    ensures crossing { IfOk result (λ read. IsCrossing (record { played = read.0; priced = read.1; coin = coin })) }
-{
-    let mut lines = Lines::new(bytes);
-    let played = PayTable::read(&mut lines)?;
-    if played.coins < coin {
-        return Err(Refused { line: lines.last() });
-    }
-    let priced = PayTable::read(&mut lines)?;
-    if priced.deck != played.deck || priced.coins < coin {
-        return Err(Refused { line: lines.last() });
-    }
-    match lines.next() {
-        None => Ok((played, priced)),
-        Some(words) => Err(Refused { line: words.line() }),
-    }
 }

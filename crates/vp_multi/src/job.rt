@@ -1,23 +1,24 @@
 //! `multi`: the moments of several hands from one deal.
 
 ghost use Rattle.std.specs.Prelude.{◌≡◌, ◌*◌, ◌≤◌, length};
+ghost use Rattle.vp_card.specs.Cards.{IsDeck};
 ghost use Rattle.vp_count.specs.Table.{first_word};
 ghost use Rattle.vp_io.specs.Puts.{Puts};
-ghost use Rattle.vp_sets.specs.Sets.{choose};
 ghost use Rattle.vp_sets.specs.Draws.{common};
-ghost use Rattle.vp_card.specs.Cards.{IsDeck};
+ghost use Rattle.vp_sets.specs.Sets.{choose};
 ghost use Rattle.vp_text.specs.Written.{written};
-ghost use Rattle.vp_run.specs.Multi.{IsDrawn, moment_lines, moments_of};
+ghost use Rattle.vp_multi.specs.Multi.{IsDrawn, moment_lines, moments_of};
 
+use crate::{MomentSums, moments};
 use std::marker::Model;
+use vp_answer::{Stop, Work};
 use vp_count::table_words;
 use vp_draws::return_denominator;
 use vp_hold::{Game, Squares};
 use vp_io::{Sink, WriteFault};
 use vp_lines::{Word, put_lines};
-use vp_multi::{MomentSums, moments};
-use vp_pay::PayTable;
-use vp_region::Region;
+use vp_pay::{HasBet, PayTable, read_input};
+use vp_region::Carver;
 use vp_sets::common;
 
 /// Hands that are drawn from one deal, for a bet on a pay table.
@@ -29,7 +30,7 @@ pub struct MultiJob {
 }
 
 impl Model for MultiJob {
-    ghost use Rattle.vp_run.specs.Multi.{Drawn, IsDrawn};
+    ghost use Rattle.vp_multi.specs.Multi.{Drawn, IsDrawn};
 
     ghost Value = { Drawn };
 
@@ -39,34 +40,40 @@ impl Model for MultiJob {
 }
 
 impl MultiJob {
-    ghost use Rattle.std.specs.Prelude.{◌≡◌, ◌*◌, ◌≤◌};
-    ghost use Rattle.vp_count.specs.Table.{first_word};
-    ghost use Rattle.vp_io.specs.Puts.{Puts};
-    ghost use Rattle.vp_run.specs.Multi.{IsDrawn, multi_lines};
-    ghost use Rattle.vp_text.specs.Written.{written};
+    ghost use Rattle.std.specs.Prelude.{◌≡◌, ◌≤◌, length};
+    ghost use Rattle.vp_multi.specs.Multi.{multi_job};
 
-    pub(crate) fn new(table: PayTable, coin: u8, hands: u8) -> MultiJob
-        requires { IsDrawn (record { table = table; coin = coin; hands = hands }) }
-        ensures { result ≡ record { table = table; coin = coin; hands = hands } }
+    /// What the bytes leave to do for a bet and a number of hands: a pay table that has the bet.
+    #[tactic(auto, unfolding(vp_pay::specs::Inputs::section_input, vp_pay::specs::Inputs::table_input))]
+    pub fn read(coin: u8, hands: u8, bytes: &[u8]) -> Result<MultiJob, Stop>
+        requires some { 1 ≤ coin }
+        requires hands { 1 ≤ hands }
+        requires most { hands ≤ 100 }
+        requires limit { length bytes.now ≤ 67108864 }
+        ensures { result ≡ multi_job coin hands bytes.now }
     {
-        MultiJob { table, coin, hands }
+        let (table, ()) = read_input::<(), HasBet>(bytes, &HasBet { coin })?;
+        Ok(MultiJob { table, coin, hands })
     }
+}
 
-    /// How many words of 64 bits it needs: a table of sums of payments, and one of squares.
-    pub(crate) fn words(&self) -> usize
-        ensures { result ≡ 2 * first_word self.now.table.deck 6 }
-    {
+impl Work for MultiJob {
+    ghost use Rattle.vp_multi.specs.Multi.{multi_due, multi_some};
+
+    ghost due = { multi_due };
+
+    ghost some_text = { multi_some };
+
+    /// A table of sums of payments, and one of squares.
+    #[tactic(auto, using(vp_count::proofs::Words::first_word_small))]
+    fn words(&self) -> usize {
         2 * table_words(self.table.deck)
     }
 
     /// Puts the four lines of the moments.
-    pub(crate) fn put<K: Sink>(&self, region: &mut Region, sink: &mut K) -> Result<(), WriteFault>
-        requires { 2 * first_word self.now.table.deck 6 ≤ region.old }
-        ensures puts { Puts (K.told sink.old) (K.told sink.new) result (written (multi_lines self.now)) }
-        ensures same { region.new ≡ region.old }
-    {
+    fn put<K: Sink>(&self, memory: &mut [u64], sink: &mut K) -> Result<(), WriteFault> {
         let many = table_words(self.table.deck);
-        let mut carver = region.carve();
+        let mut carver = Carver::over(memory);
         let words = carver.take_as_it_is(many).unwrap();
         let more = carver.take_as_it_is(many).unwrap();
         let sums = moments_of(&self.table, self.coin, self.hands, words, more);
@@ -102,7 +109,8 @@ fn moments_of(
 /// Puts the four lines of the moments over all deals from a deck of `n` cards.
 fn put_moments<K: Sink>(sums: MomentSums, n: u8, sink: &mut K) -> Result<(), WriteFault>
     requires { IsDeck n }
-    ensures { Puts (K.told sink.old) (K.told sink.new) result (written (moment_lines sums (choose n 5 * common n) (common n))) }
+    ensures { Puts (K.told sink.old) (K.told sink.new) result
+        (written (moment_lines sums (choose n 5 * common n) (common n))) }
 {
     put_fractions(sums, return_denominator(n, 1), common(n), sink)
 }
@@ -114,7 +122,8 @@ fn put_fractions<K: Sink>(
     under: u64,
     sink: &mut K,
 ) -> Result<(), WriteFault>
-    ensures { Puts (K.told sink.old) (K.told sink.new) result (written (moment_lines sums all under)) }
+    ensures { Puts (K.told sink.old) (K.told sink.new) result
+        (written (moment_lines sums all under)) }
 {
     let square = u128::from(all) * u128::from(under);
     let mean = [Word::Text(b"mean"), Word::Fraction(sums.mean, all as u128)];
