@@ -30,38 +30,6 @@ use Rattle.vp_command.proofs.CommandWords.{in_range}
 use Rattle.vp_run.proofs.FittingBets.{bet_fits}
 use Rattle.vp_run.proofs.NoCommand.{answer_as}
 
--- ---- certify
-
--- the bet of an input of `certify` is one of its table
-bet_found : (words : List Word) (coin : ℕ) (bytes : List ℕ) (table : PayTable) → command_of words ≡ Some (Over (Certify coin)) → certify_input coin bytes ≡ Ok (table, tt) → IsBet table coin
-bet_found words coin bytes table is says =
-    let found = ((tables_read (has_bet coin)).spelled bytes (table, tt)).0 says in
-    record { rules = found.0; some = (in_range words (Certify coin) is).0; within = bet_fits coin table.coins found.1 }
-
--- the answer of `certify` to what its input says
-certify_as : (words : List Word) (coin : ℕ) (bytes : List ℕ) (table : PayTable) → command_of words ≡ Some (Over (Certify coin)) → certify_input coin bytes ≡ Ok (table, tt)
-    → done (written (certificate_text (due_certificate table coin))) ≡ answer words bytes
-certify_as words coin bytes table is says =
-    ap (λ r. answer_read job_answer (read_as (certify_job coin) r)) (sym says) ∙ answer_as words (Some (Over (Certify coin))) bytes is
-
-pub certificates_tell : CertificatesTellEveryDeal
-unfolding due_certificate
-certificates_tell words coin bytes table is says =
-    let due = certify_as words coin bytes table is says in
-    let bet = bet_found words coin bytes table is says in
-    let c = due_certificate table coin in
-    let grammar = due_is_certificate table coin bet in
-    record {
-      certificate = c;
-      table_is = refl;
-      coin_is = refl;
-      status = ap (λ (a : Answer). a.status) (sym due);
-      text = ap (λ (a : Answer). a.text) (sym due);
-      grammar = grammar;
-      due_is = refl;
-      tells = true_tells c grammar (due_is_true table coin bet.rules);
-    }
-
 -- ---- check
 
 -- a check that is done found no broken rule
@@ -82,21 +50,3 @@ checks_tell words count bytes c is spells many done =
 
 pub checks_tell_walked : ChecksTellWalkedDeals
 checks_tell_walked words from count bytes c is spells done = walked_tell from count c spells.grammar (check_true words from count bytes c is spells done)
-
--- ---- check of what certify prints
-
--- what is printed is read again, and is true over whatever lines are walked
-pub certificates_checked : CertificatesAreChecked
-certificates_checked words coin bytes table is says =
-    let bet = bet_found words coin bytes table is says in
-    let c = due_certificate table coin in
-    let grammar : IsCertificate c = due_is_certificate table coin bet in
-    let printed : written (certificate_text c) ≡ (answer words bytes).text = ap (λ (a : Answer). a.text) (certify_as words coin bytes table is says) in
-    subst IsCheckedWell printed (record { short = short_certificate c grammar; well = well c grammar bet refl })
-  where
-    well : (c : Certificate) → IsCertificate c → IsBet table coin → c ≡ due_certificate table coin → (others : List Word) (from count : ℕ) → command_of others ≡ Some (Over (Check from count)) → (answer others (written (certificate_text c))).status ≡ Done
-    well c grammar bet due others from count asks =
-        let text = written (certificate_text c) in
-        let unbroken : first_break from count c ≡ None = true_anywhere from count c grammar (rw due (due_is_true table coin bet.rules)) in
-        let result : check_result text from count ≡ verdict from count c (feed_of text) None = verdict_is text from count c None (written_whole c grammar) unbroken in
-        ap (λ (a : Answer). a.status) (sym (answer_as others (Some (Over (Check from count))) text asks)) ∙ ap (λ v. (answer_read job_answer (check_read v)).status) result

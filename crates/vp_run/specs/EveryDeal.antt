@@ -34,22 +34,6 @@ DealsPrintBestHolds = (words : List Word) (coin : ℕ) (bytes : List ℕ) (table
     → command_of words ≡ Some (Over (Deal coin)) → deal_input coin bytes ≡ Ok (table, hand)
     → PrintsHold (record { table = table; coin = coin; hand = hand }) (answer words bytes)
 
--- the answer is a certificate of this pay table and this bet in the grammar, the due one, which tells every deal
-pub record PrintsAll (table : PayTable) (coin : ℕ) (due : Answer) : Type 0 where
-  pub certificate : Certificate
-  pub table_is : certificate.table ≡ table
-  pub coin_is : certificate.coin ≡ coin
-  pub status : due.status ≡ Done
-  pub text : due.text ≡ written (certificate_text certificate)
-  pub grammar : IsCertificate certificate
-  pub due_is : certificate ≡ due_certificate table coin
-  pub tells : TellsEveryDeal certificate
-
--- the answer of `certify` to each pay table that it takes
-abbrev pub CertificatesTellEveryDeal : Type 0
-CertificatesTellEveryDeal = (words : List Word) (coin : ℕ) (bytes : List ℕ) (table : PayTable)
-    → command_of words ≡ Some (Over (Certify coin)) → certify_input coin bytes ≡ Ok (table, tt) → PrintsAll table coin (answer words bytes)
-
 -- a check of all class lines that finds no broken rule
 abbrev pub ChecksTellEveryDeal : Type 0
 ChecksTellEveryDeal = (words : List Word) (count : ℕ) (bytes : List ℕ) (c : Certificate)
@@ -59,16 +43,6 @@ ChecksTellEveryDeal = (words : List Word) (count : ℕ) (bytes : List ℕ) (c : 
 abbrev pub ChecksTellWalkedDeals : Type 0
 ChecksTellWalkedDeals = (words : List Word) (from count : ℕ) (bytes : List ℕ) (c : Certificate)
     → command_of words ≡ Some (Over (Check from count)) → SpellsCertificate bytes c → (answer words bytes).status ≡ Done → TellsWalkedDeals from count c
-
--- the answer is an input of `check`, short enough to be read, in which it finds no broken rule, whatever class lines are walked
-pub record IsCheckedWell (printed : List ℕ) : Type 0 where
-  pub short : length printed ≤ 67108864
-  pub well : (words : List Word) (from count : ℕ) → command_of words ≡ Some (Over (Check from count)) → (answer words printed).status ≡ Done
-
--- what `certify` prints of each pay table that it takes
-abbrev pub CertificatesAreChecked : Type 0
-CertificatesAreChecked = (words : List Word) (coin : ℕ) (bytes : List ℕ) (table : PayTable)
-    → command_of words ≡ Some (Over (Certify coin)) → certify_input coin bytes ≡ Ok (table, tt) → IsCheckedWell (answer words bytes).text
 
 -- the answer is the meter of this bet and of the line with this name, which tells every deal
 pub record PrintsMeter (table : PayTable) (coin : ℕ) (name : List ℕ) (lo hi : ℕ) (due : Answer) : Type 0 where
