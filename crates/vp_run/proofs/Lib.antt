@@ -1,9 +1,7 @@
-pub mod AuditLines
 pub mod CrossInputs
 pub mod CrossLines
 pub mod PrintedCrosses
 pub mod NoCommand
-pub mod PrintedLosses
 pub mod PrintedMoments
 pub mod PrintedChances
 pub mod CommandWords
@@ -19,9 +17,6 @@ pub mod SessionLines
 pub mod SessionAnswers
 pub mod MadeLogs
 pub mod Plays
-pub mod CompiledPools
-pub mod ShortLists
-pub mod CompiledAnswers
 pub mod Meters
 pub mod GivenWords
 pub mod SomeText

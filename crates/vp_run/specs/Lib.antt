@@ -4,13 +4,11 @@ pub mod Certify
 pub mod Multi
 pub mod Hits
 pub mod Play
-pub mod Compile
 pub mod Check
 pub mod Replay
 pub mod Sessions
 pub mod Meter
 pub mod Answer
-pub mod Audit
 pub mod Cross
 pub mod Crossed
 pub mod Memory
@@ -20,7 +18,5 @@ pub mod CheckedInParts
 pub mod Replayed
 pub mod SessionsTold
 pub mod Played
-pub mod PrintedLists
-pub mod Losses
 pub mod Moments
 pub mod Chances
