@@ -19,3 +19,5 @@ pub mod SoFar
 pub mod Start
 pub mod SumsMore
 pub mod Totals
+pub mod AuditLines
+pub mod AuditTells

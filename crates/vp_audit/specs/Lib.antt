@@ -6,3 +6,5 @@ pub mod Choices
 pub mod Laws
 pub mod Compiled
 pub mod Masked
+pub mod Audit
+pub mod AuditTells

@@ -1,5 +1,7 @@
 //! Laws of lists and their values, each the contract of a function that does nothing.
 
+ghost use Rattle.vp_audit.specs.Audit.{AuditInputsAreRead};
+ghost use Rattle.vp_audit.specs.AuditTells.{AuditsPrintLosses};
 ghost use Rattle.vp_audit.specs.Masked.{BestHoldsLoseLeast};
 ghost use Rattle.vp_audit.specs.Laws.{AllowedByClasses, CompiledAreLists, DealsAreSharedOut, DecidedByClasses, ExceptedLoseAsLists, ExceptionsChargeTheirHold, GreatestByClasses, LeastAndLossAreTheBest, LeastByClasses, LeastIsAtMostTheBest, LossIsSharedOut, NothingChargesHoldingNothing, OrdersLoseAsLists, RowsAreWorthTheBest, RulesAllowTheGreatest, RulesChargeTheLeast};
 
@@ -50,4 +52,21 @@ pub fn compiled_lists_are_lists()
 /// A list with exceptions for the classes at some places loses at least what it loses where these give the best holds.
 pub fn best_holds_lose_least()
     ensures { BestHoldsLoseLeast }
+{}
+
+/// What `audit` takes for its input is what the lines of the input spell: a valid pay table that has the bet, then a
+/// strategy list for it, and nothing else. Every other input is refused, exactly at its refused line.
+#[tactic(auto, using(crate::proofs::AuditTells::inputs_read))]
+pub fn audit_inputs_are_read()
+    ensures { AuditInputsAreRead }
+{}
+
+/// The text of `audit` to each pay table and list that it takes prints the loss of the list: the optimum, which is the
+/// sum over all deals of the best values, less the sum over all deals of the least value that the list allows, which never
+/// exceeds the best one: that of the exception's hold, where an exception is one of the deal's class; else the least among
+/// the holds that the first matching rule matches; else that of holding nothing. The lines of the exceptions, of the rules
+/// and of no rule share out all deals and the loss.
+#[tactic(auto, using(crate::proofs::AuditTells::losses_printed))]
+pub fn audits_print_losses()
+    ensures { AuditsPrintLosses }
 {}

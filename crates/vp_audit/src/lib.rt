@@ -1,6 +1,7 @@
 //! What a strategy list loses against the best holds, over all deals.
 #![tactic(auto)]
 
+mod audit_job;
 mod audited;
 mod choices;
 mod filling;
@@ -10,11 +11,13 @@ mod sums;
 mod walk;
 mod writing;
 
+pub use audit_job::AuditJob;
 pub use audited::{Audited, Tally};
 pub use filling::fill_matrix;
 pub use laws::{
-    best_holds_lose_least, compiled_lists_are_lists, lists_are_charged_the_least_value,
-    losses_are_shared_out, orders_lose_as_lists, rules_are_priced_by_classes,
+    audit_inputs_are_read, audits_print_losses, best_holds_lose_least, compiled_lists_are_lists,
+    lists_are_charged_the_least_value, losses_are_shared_out, orders_lose_as_lists,
+    rules_are_priced_by_classes,
 };
 pub use walk::audit;
 pub use writing::put_list;

@@ -11,6 +11,7 @@ mod pool;
 mod reading;
 mod rule;
 mod rule_words;
+mod section;
 mod spellings;
 mod test_words;
 mod writing;

@@ -2,12 +2,9 @@
 use Rattle.std.proofs.Common.{append-nil, codes, ◌≡◌, ℕ, zero, suc, ◌+◌, ◌<◌, ◌≤◌, List, [], ◌∷◌, ◌++◌, length, drop, drop-cons, get_or, refl, ap, ◌∙◌, arith}
 use Rattle.std.proofs.lemmas.Grind.{flat_map-append}
 use Rattle.vp_text.specs.Written.{line_of, written}
-use Rattle.vp_pay.specs.declared.table.PayTable.{PayTable}
-use Rattle.vp_draws.specs.Draws.{return_denominator}
-use Rattle.vp_audit.specs.Audits.{audited}
 use Rattle.vp_audit.specs.declared.audited.Audited.{Audited}
 use Rattle.vp_audit.specs.declared.audited.Tally.{Tally}
-use Rattle.vp_run.specs.Audit.{Listed, audit_lines, audited_lines, rule_lines, rule_words, sum_lines, tally_words}
+use Rattle.vp_audit.specs.Audit.{audited_lines, rule_lines, rule_words, sum_lines, tally_words}
 
 -- the next rule's line, and those behind it
 pub rules_left : (tallies : List Tally) (place : ℕ) (other : Tally) → place < length tallies
@@ -32,10 +29,3 @@ audited_text a under =
     flat_map-append line_of (sum_lines a under) (rule_lines 1 a.rules.items ++ none ∷ [])
     ∙ ap (λ (text : List ℕ). written (sum_lines a under) ++ text)
     (flat_map-append line_of (rule_lines 1 a.rules.items) (none ∷ []) ∙ ap (λ (text : List ℕ). written (rule_lines 1 a.rules.items) ++ text) (append-nil (line_of none)))
-
--- what is put, of the numbers that were reckoned
-pub audit_text_as : (l : Listed) (a : Audited) (told : PayTable) (bet under : ℕ) → told ≡ l.table → bet ≡ l.coin → a ≡ audited told bet l.list → under ≡ return_denominator l.table.deck l.coin
-    → written (audited_lines a under) ≡ written (audit_lines l)
-audit_text_as l a told bet under is_table is_coin is is_under =
-    let due : a ≡ audited l.table l.coin l.list = is ∙ ap (λ (t : PayTable). audited t bet l.list) is_table ∙ ap (λ n. audited l.table n l.list) is_coin in
-    ap (λ (x : Audited). written (audited_lines x under)) due ∙ ap (λ n. written (audited_lines (audited l.table l.coin l.list) n)) is_under

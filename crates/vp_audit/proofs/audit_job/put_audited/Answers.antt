@@ -3,9 +3,9 @@ use Rattle.std.proofs.Common.{List, ap, sym}
 use Rattle.vp_io.proofs.Puts_laws.{Puts_as, Puts_stopped, Puts_then}
 use Rattle.vp_text.specs.Written.{written}
 use Rattle.vp_audit.specs.declared.audited.Tally.{Tally}
-use Rattle.vp_run.specs.Audit.{rule_lines}
-use Rattle.vp_run.proofs.AuditLines.{audited_text}
-use Rattle.vp_run.proofs.audit.put_audited.Goals as goal
+use Rattle.vp_audit.specs.Audit.{rule_lines}
+use Rattle.vp_audit.proofs.AuditLines.{audited_text}
+use Rattle.vp_audit.proofs.audit_job.put_audited.Goals as goal
 
 pub returns-in_err-put_sums : goal.returns-in_err-put_sums
 returns-in_err-put_sums g c = Puts_as (sym (audited_text c.args.audited.now c.args.under)) (Puts_stopped _ c.in_err-put_sums.was c.from_residual.ensures.0 c.put_sums.ensures)

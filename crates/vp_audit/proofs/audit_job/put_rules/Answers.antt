@@ -1,8 +1,8 @@
 -- Each line is put behind those before it.
 use Rattle.std.proofs.Common.{arith}
 use Rattle.vp_io.proofs.PutSoFar.{put_all, put_halted, put_more}
-use Rattle.vp_run.proofs.AuditLines.{no_rules_left, rules_left}
-use Rattle.vp_run.proofs.audit.put_rules.Goals as goal
+use Rattle.vp_audit.proofs.AuditLines.{no_rules_left, rules_left}
+use Rattle.vp_audit.proofs.audit_job.put_rules.Goals as goal
 
 pub returns-in_err-put_rule : goal.returns-in_err-put_rule
 returns-in_err-put_rule g c =

@@ -1,26 +1,25 @@
 //! `audit`: what a strategy list loses.
 
-ghost use Rattle.std.specs.Prelude.{◌≡◌, ◌≤◌, ◌<◌, IfOk, codes, length};
-ghost use Rattle.vp_text.specs.Lines.{Word as Spelled};
-ghost use Rattle.vp_text.specs.Written.{line_of, written};
+ghost use Rattle.std.specs.Prelude.{◌≡◌, ◌<◌, codes, length};
+ghost use Rattle.vp_count.specs.Table.{first_word};
 ghost use Rattle.vp_io.specs.Puts.{Puts};
 ghost use Rattle.vp_rule.specs.Valid.{IsList};
+ghost use Rattle.vp_text.specs.Written.{line_of, written};
+ghost use Rattle.vp_audit.specs.Audit.{IsListed, audited_lines, rule_lines, rule_words, sum_lines, tally_words};
 ghost use Rattle.vp_audit.specs.Audits.{audited};
-ghost use Rattle.vp_pay.specs.Reads.{Reads};
-ghost use Rattle.vp_run.specs.Audit.{IsListed, audit_input, audited_lines, rule_lines, rule_words, sum_lines, tally_words};
 
+use crate::{Audited, Tally, audit};
 use std::marker::{Brand, Model};
 use std::sync::ledger::{Blank, Ledger};
-use vp_audit::{Audited, Tally, audit};
+use vp_answer::{Stop, Work};
 use vp_count::table_words;
 use vp_draws::return_denominator;
 use vp_hold::Game;
 use vp_io::{Sink, WriteFault};
 use vp_lines::{Word, put_lines, put_words};
-use vp_pay::PayTable;
-use vp_region::Region;
+use vp_pay::{HasBet, PayTable, read_input};
+use vp_region::Carver;
 use vp_rule::List;
-use vp_text::{Lines, Refused};
 use vp_wild::Steps;
 
 /// A bet on a pay table, and a list for the table.
@@ -32,7 +31,7 @@ pub struct AuditJob<'a> {
 }
 
 impl<'a> Model for AuditJob<'a> {
-    ghost use Rattle.vp_run.specs.Audit.{IsListed, Listed};
+    ghost use Rattle.vp_audit.specs.Audit.{IsListed, Listed};
 
     ghost Value = { Listed };
 
@@ -42,36 +41,36 @@ impl<'a> Model for AuditJob<'a> {
 }
 
 impl<'a> AuditJob<'a> {
-    ghost use Rattle.std.specs.Prelude.{◌≡◌, ◌≤◌};
-    ghost use Rattle.vp_count.specs.Table.{first_word};
-    ghost use Rattle.vp_io.specs.Puts.{Puts};
-    ghost use Rattle.vp_run.specs.Audit.{IsListed, audit_lines};
-    ghost use Rattle.vp_text.specs.Written.{written};
+    ghost use Rattle.std.specs.Prelude.{◌≡◌, ◌≤◌, length};
+    ghost use Rattle.vp_audit.specs.Audit.{audit_job};
 
-    pub(crate) fn new(table: PayTable, coin: u8, list: List<'a>) -> AuditJob<'a>
-        requires { IsListed (record { table = table; coin = coin; list = list }) }
-        ensures { result ≡ record { table = table; coin = coin; list = list.entry } }
+    /// What the bytes leave to do for a bet: a pay table that has it, and a list for the table.
+    pub fn read(coin: u8, bytes: &'a [u8]) -> Result<AuditJob<'a>, Stop>
+        requires some { 1 ≤ coin }
+        requires limit { length bytes.now ≤ 67108864 }
+        ensures { result ≡ audit_job coin bytes.now }
     {
-        AuditJob { table, coin, list }
+        let (table, list) = read_input::<List, HasBet>(bytes, &HasBet { coin })?;
+        Ok(AuditJob { table, coin, list })
     }
+}
 
-    /// How many words of 64 bits it needs: a table of sums.
-    pub(crate) fn words(&self) -> usize
-        ensures { result ≡ first_word self.now.table.deck 6 }
-    {
+impl<'a> Work for AuditJob<'a> {
+    ghost use Rattle.vp_audit.specs.Audit.{audit_due, audit_some};
+
+    ghost due = { audit_due };
+
+    ghost some_text = { audit_some };
+
+    /// A table of sums.
+    fn words(&self) -> usize {
         table_words(self.table.deck)
     }
 
-    /// Puts what the list loses.
-    pub(crate) fn put<K: Sink>(&self, region: &mut Region, sink: &mut K) -> Result<(), WriteFault>
-        requires { first_word self.now.table.deck 6 ≤ region.old }
-        ensures puts { Puts (K.told sink.old) (K.told sink.new) result (written (audit_lines self.now)) }
-        ensures same { region.new ≡ region.old }
-    {
-        let mut carver = region.carve();
+    fn put<K: Sink>(&self, memory: &mut [u64], sink: &mut K) -> Result<(), WriteFault> {
+        let mut carver = Carver::over(memory);
         let words = carver.take_as_it_is(table_words(self.table.deck)).unwrap();
-        let game = Game::of(&self.table, self.coin, words);
-        let audited = audit_of::<Brand>(&game, &self.list, Blank::new(1));
+        let audited = audited_of(&self.table, self.coin, &self.list, words);
         put_audited(
             &audited,
             return_denominator(self.table.deck, self.coin),
@@ -80,7 +79,17 @@ impl<'a> AuditJob<'a> {
     }
 }
 
-/// What the list loses; the blank is for a counter that nobody reads.
+/// What the list loses, out of the table of sums that is made in the words.
+fn audited_of(table: &PayTable, coin: u8, list: &List, words: &mut [u64]) -> Audited
+    requires listed { IsListed (record { table = table.now; coin = coin; list = list.now }) }
+    requires long { length words.old ≡ first_word table.now.deck 6 }
+    ensures { result ≡ audited table.now coin list.now }
+{
+    let game = Game::of(table, coin, words);
+    audit_of::<Brand>(&game, list, Blank::new(1))
+}
+
+/// The same; the blank is for a counter that nobody reads.
 fn audit_of<L: Ledger>(game: &Game, list: &List, blank: Blank) -> Audited
     requires list { IsList game.now.table list.now }
     requires name { blank.name ≡ L.name }
@@ -163,24 +172,4 @@ fn put_none<K: Sink>(tally: Tally, sink: &mut K) -> Result<(), WriteFault>
         Word::Number(tally.loss),
     ];
     put_words(&words, sink)
-}
-
-/// The pay table and the list that the bytes say, for a bet of `coin`.
-#[tactic(auto, unfolding(vp_rule::specs::Inputs::list_input))]
-pub(crate) fn read_audit_input(bytes: &[u8], coin: u8) -> Result<(PayTable, List<'_>), Refused>
-    requires some { 1 ≤ coin }
-    requires limit { length bytes.now ≤ 67108864 }
-    ensures says { Reads (λ read. read) result (audit_input coin bytes.now) }
-    ensures listed { IfOk result (λ read. IsListed (record { table = read.0; coin = coin; list = read.1 })) }
-{
-    let mut lines = Lines::new(bytes);
-    let table = PayTable::read(&mut lines)?;
-    if table.coins < coin {
-        return Err(Refused { line: lines.last() });
-    }
-    let list = List::read(&mut lines, &table)?;
-    match lines.next() {
-        None => Ok((table, list)),
-        Some(words) => Err(Refused { line: words.line() }),
-    }
 }

@@ -1,10 +1,12 @@
 -- `audit`: what its input says, and what it prints. Input and text are this program's own (docs/FORMATS.md, `vpoker audit`).
-use Rattle.std.specs.Prelude.{ℕ, ◌+◌, List, [], ◌∷◌, ◌++◌, Result, codes}
+use Rattle.std.specs.Prelude.{ℕ, ◌+◌, ◌<◌, List, refl, [], ◌∷◌, ◌++◌, length, Result, codes}
 use Rattle.std.specs.Fmt.{decimal}
 use Rattle.vp_text.specs.Lines.{Word}
 use Rattle.vp_text.specs.Sections.{Text}
+use Rattle.vp_text.specs.Written.{fraction, written}
 use Rattle.vp_pay.specs.Bets.{IsBet}
 use Rattle.vp_pay.specs.declared.table.PayTable.{PayTable}
+use Rattle.vp_count.specs.Table.{first_word}
 use Rattle.vp_draws.specs.Draws.{return_denominator}
 use Rattle.vp_rule.specs.Inputs.{RefusesList, SpellsList, list_input}
 use Rattle.vp_rule.specs.Lists.{RuleList}
@@ -12,8 +14,10 @@ use Rattle.vp_rule.specs.Valid.{IsList}
 use Rattle.vp_audit.specs.Audits.{audited}
 use Rattle.vp_audit.specs.declared.audited.Audited.{Audited}
 use Rattle.vp_audit.specs.declared.audited.Tally.{Tally}
-use Rattle.vp_pay.specs.Inputs.{AreRead}
-use Rattle.vp_run.specs.Deal.{fraction, has_bet}
+use Rattle.vp_pay.specs.Inputs.{AreRead, has_bet}
+use Rattle.vp_answer.specs.Jobs.{Due, read_as}
+use Rattle.vp_answer.proofs.SomeAnswers.{some_lines}
+use Rattle.vp_answer.specs.declared.stop.Stop.{Stop}
 
 -- what an input of `audit` says: a pay table that has the bet, then a list for it, and nothing else; or the line where it is refused
 abbrev pub audit_input : ℕ → List ℕ → Result (PayTable × RuleList) ℕ
@@ -60,6 +64,18 @@ audited_lines a under = sum_lines a under ++ (rule_lines 1 a.rules.items ++ tall
 -- what `audit` prints
 abbrev pub audit_lines : Listed → Text
 audit_lines l = audited_lines (audited l.table l.coin l.list) (return_denominator l.table.deck l.coin)
+
+-- a table of sums, and the lines of the loss
+abbrev pub audit_due : Listed → Due
+audit_due l = record { words = first_word l.table.deck 6; text = written (audit_lines l) }
+
+-- it has a line
+abbrev pub audit_some : (l : Listed) → 0 < length (audit_due l).text
+audit_some l = some_lines (audit_lines l) refl
+
+-- what an input leaves to do
+abbrev pub audit_job : ℕ → List ℕ → Result Listed Stop
+audit_job coin bytes = read_as (λ read. record { table = read.0; coin = coin; list = read.1 }) (audit_input coin bytes)
 
 -- a pay table that has the bet, and a list for it
 abbrev pub AuditInputsAreRead : Type 0
