@@ -5,6 +5,7 @@ mod event;
 mod events;
 mod laws;
 mod log;
+mod section;
 mod words;
 mod writing;
 

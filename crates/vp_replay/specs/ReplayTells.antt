@@ -1,7 +1,6 @@
 -- What the answer of `replay` tells.
 use Rattle.std.specs.Prelude.{◌≡◌, ◌⊎◌, ℕ, ◌+◌, List, ◌∷◌, ◌++◌, length, Some, Ok}
 use Rattle.std.specs.List.{AllByRecursion}
-use Rattle.vp_text.specs.Lines.{Word}
 use Rattle.vp_text.specs.Written.{written}
 use Rattle.vp_pay.specs.declared.table.PayTable.{PayTable}
 use Rattle.vp_loggram.specs.Logs.{LogValue}
@@ -13,11 +12,7 @@ use Rattle.vp_replay.specs.Summaries.{last_credits, replay_lines}
 use Rattle.vp_replay.specs.declared.rule.Broken.{Broken}
 use Rattle.vp_answer.specs.Answers.{Answer, finding}
 use Rattle.vp_answer.specs.declared.status.Status.TheVariants.{Done}
-use Rattle.vp_run.specs.Answer.{answer}
-use Rattle.vp_command.specs.Commands.{command_of}
-use Rattle.vp_run.specs.Replay.{replay_input, rule_of}
-use Rattle.vp_command.specs.declared.command.Command.TheVariants.{Over}
-use Rattle.vp_command.specs.declared.command.Task.TheVariants.{Replay}
+use Rattle.vp_replay.specs.Replay.{replay_answer, replay_input, replay_job, rule_of}
 
 -- all games keep the laws, each from the credits of the one before it, and the answer is what their holds cost and the numbers of the
 -- log; each cost is the best value of the 32 holds of the deal, less that of the held cards, at the bet
@@ -46,6 +41,5 @@ pub record NamesBreak (table : PayTable) (log : LogValue) (due : Answer) : Type 
 
 -- the answer of `replay` to each pay table and log that it takes
 abbrev pub ReplaysTellCosts : Type 0
-ReplaysTellCosts = (words : List Word) (bytes : List ℕ) (table : PayTable) (log : LogValue)
-    → command_of words ≡ Some (Over Replay) → replay_input bytes ≡ Ok (table, log)
-    → TellsCosts table log (answer words bytes) ⊎ NamesBreak table log (answer words bytes)
+ReplaysTellCosts = (bytes : List ℕ) (table : PayTable) (log : LogValue) → replay_input bytes ≡ Ok (table, log)
+    → TellsCosts table log (replay_answer (replay_job bytes)) ⊎ NamesBreak table log (replay_answer (replay_job bytes))

@@ -2,7 +2,7 @@
 use Rattle.std.proofs.Common.{◌≡◌, ℕ, ◌+◌, List, [], ◌∷◌, refl, sym, ap, subst, ◌∙◌, arith, inl, inr, Option, Some, None}
 use Rattle.std.specs.Prelude.{Ok, Err, Result, ◌⊎◌}
 use Rattle.std.specs.List.{AllByRecursion}
-use Rattle.vp_text.specs.Lines.{Feed, Word}
+use Rattle.vp_text.specs.Lines.{Feed}
 use Rattle.vp_text.specs.Reading.{◌>>=◌}
 use Rattle.vp_text.specs.ExactReaders.{Exact}
 use Rattle.vp_text.proofs.Pieces.{same_value}
@@ -21,15 +21,11 @@ use Rattle.vp_replay.specs.declared.rule.Broken.{Broken}
 use Rattle.vp_replay.specs.declared.rule.LogRule.{LogRule}
 use Rattle.vp_replay.proofs.Costing.{cost_is, length-in_order}
 use Rattle.vp_replay.proofs.Runs.{lawful_game, lawful_games}
-use Rattle.vp_answer.specs.Answers.{Answer, answer_read}
+use Rattle.vp_answer.specs.Answers.{Answer}
+use Rattle.vp_pay.specs.Inputs.{fits_all}
 use Rattle.vp_pay.proofs.Inputs.{section_read}
-use Rattle.vp_run.specs.Answer.{answer, job_answer, judged_log, log_read}
-use Rattle.vp_command.specs.Commands.{command_of}
-use Rattle.vp_run.specs.Replay.{ReplayInputsAreRead, as_spelled, fits_all, replay_input}
-use Rattle.vp_run.specs.Replayed.{IsFirstBreak, NamesBreak, ReplaysTellCosts, TellsCosts}
-use Rattle.vp_command.specs.declared.command.Command.TheVariants.{Over}
-use Rattle.vp_command.specs.declared.command.Task.TheVariants.{Replay}
-use Rattle.vp_run.proofs.NoCommand.{answer_as}
+use Rattle.vp_replay.specs.Replay.{ReplayInputsAreRead, as_spelled, judged_by, log_read, replay_answer, replay_input}
+use Rattle.vp_replay.specs.ReplayTells.{IsFirstBreak, NamesBreak, ReplaysTellCosts, TellsCosts}
 
 -- ---- the input
 
@@ -96,7 +92,7 @@ costs_are : (table : PayTable) (credits : ℕ) (events : List Event) → IsTable
 costs_are table credits [] known games all = tt
 costs_are table credits (e ∷ events) known games all = (cost_is table e known all.0.cards (length-in_order e.deal ∙ all.0.deal) games.0.event.cards, costs_are table e.credits events known games.1 all.1)
 
-judged : (table : PayTable) (log : LogValue) → IsTable table × IsLog table.deck log → (o : Option Broken) → break_in table log ≡ o → (due : Answer) → answer_read job_answer (judged_log table log o) ≡ due
+judged : (table : PayTable) (log : LogValue) → IsTable table × IsLog table.deck log → (o : Option Broken) → break_in table log ≡ o → (due : Answer) → replay_answer (judged_by table log o) ≡ due
     → TellsCosts table log due ⊎ NamesBreak table log due
 judged table log valid None none due is =
     let games = lawful_games table 1 log.start log.events none in
@@ -108,11 +104,6 @@ judged table log valid None none due is =
     })
 judged table log valid (Some b) some due is = inr (record { broken = b; first = first_at table 1 log.start log.events b some; named = sym is })
 
--- the answer of `replay` to what its input says
-pub replay_as : (words : List Word) (bytes : List ℕ) (table : PayTable) (log : LogValue) → command_of words ≡ Some (Over Replay) → replay_input bytes ≡ Ok (table, log)
-    → answer_read job_answer (judged_log table log (break_in table log)) ≡ answer words bytes
-replay_as words bytes table log is says = ap (λ r. answer_read job_answer (log_read r)) (sym says) ∙ answer_as words (Some (Over Replay)) bytes is
-
 pub replays_tell : ReplaysTellCosts
-replays_tell words bytes table log is says =
-    judged table log (read_valid bytes table log says) (break_in table log) refl (answer words bytes) (replay_as words bytes table log is says)
+replays_tell bytes table log says =
+    judged table log (read_valid bytes table log says) (break_in table log) refl (replay_answer (log_read (replay_input bytes))) (ap (λ r. replay_answer (log_read r)) (sym says))

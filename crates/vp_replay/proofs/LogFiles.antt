@@ -17,8 +17,8 @@ use Rattle.vp_loggram.specs.Logs.{IsLog, LogValue}
 use Rattle.vp_loggram.specs.Spelling.{log_text}
 use Rattle.vp_loggram.proofs.Log_laws.{written_again}
 use Rattle.vp_check.proofs.ShortTexts.{short_table}
-use Rattle.vp_run.specs.Replay.{log_file, replay_input}
-use Rattle.vp_run.proofs.Replays.{inputs_read}
+use Rattle.vp_replay.specs.Replay.{log_file, replay_input}
+use Rattle.vp_replay.proofs.ReplayTells.{inputs_read}
 
 -- the lines of a log that is written are those of its text
 log_lines : (log : LogValue) → IsReadAgain log_text log [] → text_of (feed_of (written (log_text log))).lines ≡ log_text log
