@@ -1,5 +1,5 @@
 -- Class lines and the return: each is read from its words, and from no others.
-use Rattle.std.proofs.Common.{◌≡◌, ℕ, ◌<◌, ◌≤◌, ◌^◌, Bool, true, false, cond, ◌&&◌, nat_lt, List, [], ◌∷◌, ◌++◌, map, length, refl, ap, subst, ◌∙◌, arith, Some, None, inl, inr, ◌⊎◌, length-append, append_assoc}
+use Rattle.std.proofs.Common.{◌≡◌, ℕ, ◌<◌, ◌≤◌, ◌^◌, Bool, true, false, cond, nat_lt, List, [], ◌∷◌, ◌++◌, length, refl, ap, ◌∙◌, arith, Some, None, inl, inr, ◌⊎◌, length-append, append_assoc}
 use Rattle.std.specs.Prelude.{Option, option_map, codes}
 use Rattle.std.specs.Fmt.{decimal}
 use Rattle.std.specs.List.{AllByRecursion}
@@ -7,13 +7,11 @@ use Rattle.std.proofs.lemmas.Bool.{lt-ltb, ltb-true}
 use Rattle.std.proofs.lemmas.List.{append-nil}
 use Rattle.std.proofs.lemmas.List.Elements.{All-from_recursion}
 use Rattle.vp_card.specs.Cards.{in_deck, rises}
-use Rattle.vp_card.specs.Texts.{card_text}
-use Rattle.vp_card.specs.Reading.{card_of}
 use Rattle.vp_text.specs.Lines.{Word}
 use Rattle.vp_text.specs.Reading.{next_is}
-use Rattle.vp_text.specs.Pieces.{◌>>=◌, so_many}
+use Rattle.vp_text.specs.Pieces.{◌>>=◌}
 use Rattle.vp_text.specs.ExactReaders.{Exact, Keeps, on_item, Finish, rows_text, AreRows, ExactText}
-use Rattle.vp_text.specs.Numbers.{number_of, number_within}
+use Rattle.vp_text.specs.Numbers.{number_within}
 use Rattle.vp_text.proofs.Numbers.{number_exact, number_within_exact}
 use Rattle.vp_text.proofs.Pieces.{both_true, bound, chosen, no_value, so, Exact-so_many, Exact-one_word}
 use Rattle.vp_text.proofs.Sequences.{Exact-then, Exact-after, Exact-all_of, Exact-made, Exact-passing, Exact-also}

@@ -16,7 +16,7 @@ use Rattle.vp_pay.proofs.Plain.{plain_table}
 use Rattle.vp_loggram.specs.Logs.{IsLog, LogValue}
 use Rattle.vp_loggram.specs.Spelling.{log_text}
 use Rattle.vp_loggram.proofs.Log_laws.{written_again}
-use Rattle.vp_check.proofs.ShortTexts.{short_table}
+use Rattle.vp_pay.proofs.ShortTables.{short_table}
 use Rattle.vp_replay.specs.Replay.{log_file, replay_input}
 use Rattle.vp_replay.proofs.ReplayTells.{inputs_read}
 
