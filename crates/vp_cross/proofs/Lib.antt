@@ -4,5 +4,4 @@ pub mod Totals
 pub mod ByClasses
 pub mod CostLaws
 pub mod CrossInputs
-pub mod CrossLines
 pub mod CrossTells

@@ -4,8 +4,8 @@ ghost use Rattle.std.specs.Prelude.{◌≡◌, ◌*◌, ◌≤◌, IfOk, length}
 ghost use Rattle.vp_count.specs.Table.{first_word};
 ghost use Rattle.vp_io.specs.Puts.{Puts};
 ghost use Rattle.vp_pay.specs.Reads.{Reads};
-ghost use Rattle.vp_text.specs.Written.{line_of, written};
-ghost use Rattle.vp_cross.specs.Cross.{IsCrossing, cross_input, crossed_lines, crossed_of, total_lines, worst_words};
+ghost use Rattle.vp_text.specs.Written.{written};
+ghost use Rattle.vp_cross.specs.Cross.{IsCrossing, cross_input, crossed_lines, crossed_of};
 
 use crate::{Crossed, Worst, cross};
 use std::marker::Model;
@@ -14,7 +14,7 @@ use vp_count::table_words;
 use vp_draws::return_denominator;
 use vp_hold::Game;
 use vp_io::{Sink, WriteFault};
-use vp_lines::{Word, put_lines, put_words};
+use vp_lines::{Word, put_lines};
 use vp_pay::PayTable;
 use vp_region::Carver;
 use vp_text::{Lines, Refused};
@@ -133,24 +133,12 @@ fn crossed_of(
     }
 }
 
-/// Puts what a play costs, its sums over this denominator.
+/// Puts what a play costs, its sums over this denominator: the lines of the sums, of the numbers of classes and deals, and
+/// of the class that costs most, where there is one.
 fn put_crossed<K: Sink>(crossed: &Crossed, under: u64, sink: &mut K) -> Result<(), WriteFault>
     requires { crossed.now.value ≤ crossed.now.optimum }
     ensures { Puts (K.told sink.old) (K.told sink.new) result
         (written (crossed_lines crossed.now under)) }
-{
-    put_totals(crossed, under, sink)?;
-    match &crossed.worst {
-        None => Ok(()),
-        Some(worst) => put_worst(worst, sink),
-    }
-}
-
-/// Puts the lines of the sums, and of the numbers of classes and deals.
-fn put_totals<K: Sink>(crossed: &Crossed, under: u64, sink: &mut K) -> Result<(), WriteFault>
-    requires { crossed.now.value ≤ crossed.now.optimum }
-    ensures { Puts (K.told sink.old) (K.told sink.new) result
-        (written (total_lines crossed.now under)) }
 {
     let under = under as u128;
     let optimum = [
@@ -167,19 +155,17 @@ fn put_totals<K: Sink>(crossed: &Crossed, under: u64, sink: &mut K) -> Result<()
         Word::Number(crossed.classes as u128),
         Word::Number(crossed.deals as u128),
     ];
-    put_lines(&[&optimum, &value, &loss, &differ], sink)
-}
-
-/// Puts the line of the class that costs most.
-fn put_worst<K: Sink>(worst: &Worst, sink: &mut K) -> Result<(), WriteFault>
-    ensures { Puts (K.told sink.old) (K.told sink.new) result (line_of (worst_words worst.now)) }
-{
-    let words = [
-        Word::Text(b"worst"),
-        Word::Hand(&worst.hand),
-        Word::Number(worst.mask as u128),
-        Word::Number(worst.best as u128),
-        Word::Number(worst.cost as u128),
-    ];
-    put_words(&words, sink)
+    match &crossed.worst {
+        None => put_lines(&[&optimum, &value, &loss, &differ], sink),
+        Some(worst) => {
+            let worst = [
+                Word::Text(b"worst"),
+                Word::Hand(&worst.hand),
+                Word::Number(worst.mask as u128),
+                Word::Number(worst.best as u128),
+                Word::Number(worst.cost as u128),
+            ];
+            put_lines(&[&optimum, &value, &loss, &differ, &worst], sink)
+        }
+    }
 }

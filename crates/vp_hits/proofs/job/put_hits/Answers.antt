@@ -5,9 +5,9 @@ use Rattle.vp_io.proofs.PutSoFar.{put_all, put_halted, put_more}
 use Rattle.vp_io.proofs.Puts_laws.{Puts_as}
 use Rattle.vp_pay.specs.declared.table.PayLine.{PayLine}
 use Rattle.vp_text.specs.Written.{line_of}
-use Rattle.vp_run.specs.Hits.{hit_words}
-use Rattle.vp_run.proofs.PrintedChances.{hits_left, no_hits_left}
-use Rattle.vp_run.proofs.hits.put_hits.Goals as goal
+use Rattle.vp_hits.specs.HitsJob.{hit_words}
+use Rattle.vp_hits.proofs.HitLines.{hits_left, no_hits_left}
+use Rattle.vp_hits.proofs.job.put_hits.Goals as goal
 
 pub returns-in_err-put_hit : goal.returns-in_err-put_hit
 returns-in_err-put_hit g c =

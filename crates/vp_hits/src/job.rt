@@ -2,20 +2,21 @@
 
 ghost use Rattle.std.specs.Prelude.{◌≡◌, ◌<◌, ◌≤◌, ℕ, Some, None, length, slice_index};
 ghost use Rattle.vp_draws.specs.Draws.{sum_of_best};
-ghost use Rattle.vp_hits.specs.Hits.{often};
 ghost use Rattle.vp_io.specs.Puts.{Puts};
 ghost use Rattle.vp_pay.specs.Bets.{IsBet};
 ghost use Rattle.vp_text.specs.Written.{line_of, written};
-ghost use Rattle.vp_run.specs.Hits.{end_lines, hit_lines, hit_words, hits_lines};
+ghost use Rattle.vp_hits.specs.Hits.{often};
+ghost use Rattle.vp_hits.specs.HitsJob.{end_lines, hit_lines, hit_words, hits_lines};
 
+use crate::{LineCounts, line_counts};
 use std::marker::Model;
+use vp_answer::{Stop, Work};
 use vp_count::table_words;
 use vp_draws::return_denominator;
-use vp_hits::{LineCounts, line_counts};
 use vp_io::{Sink, WriteFault};
 use vp_lines::{Word, put_lines, put_words};
-use vp_pay::{PayLine, PayTable};
-use vp_region::Region;
+use vp_pay::{HasBet, PayLine, PayTable, read_input};
+use vp_region::Carver;
 
 /// A bet on a pay table.
 #[derive(Drop)]
@@ -25,10 +26,9 @@ pub struct HitsJob {
 }
 
 impl Model for HitsJob {
-    ghost use Rattle.vp_pay.specs.Bets.{IsBet};
-    ghost use Rattle.vp_run.specs.Certify.{Staked};
+    ghost use Rattle.vp_pay.specs.Bets.{Bet, IsBet};
 
-    ghost Value = { Staked };
+    ghost Value = { Bet };
 
     ghost view = { λ j. record { table = j.table; coin = j.coin } };
 
@@ -36,36 +36,38 @@ impl Model for HitsJob {
 }
 
 impl HitsJob {
-    ghost use Rattle.std.specs.Prelude.{◌≡◌, ◌*◌, ◌≤◌};
-    ghost use Rattle.vp_count.specs.Table.{first_word};
-    ghost use Rattle.vp_io.specs.Puts.{Puts};
-    ghost use Rattle.vp_pay.specs.Bets.{IsBet};
-    ghost use Rattle.vp_run.specs.Hits.{hits_lines};
-    ghost use Rattle.vp_text.specs.Written.{written};
+    ghost use Rattle.std.specs.Prelude.{◌≡◌, ◌≤◌, length};
+    ghost use Rattle.vp_hits.specs.HitsJob.{hits_job};
 
-    pub(crate) fn new(table: PayTable, coin: u8) -> HitsJob
-        requires { IsBet table coin }
-        ensures { result ≡ record { table = table; coin = coin } }
+    /// What the bytes leave to do for a bet: a pay table that has it.
+    #[tactic(auto, unfolding(vp_pay::specs::Inputs::section_input, vp_pay::specs::Inputs::table_input))]
+    pub fn read(coin: u8, bytes: &[u8]) -> Result<HitsJob, Stop>
+        requires some { 1 ≤ coin }
+        requires limit { length bytes.now ≤ 67108864 }
+        ensures { result ≡ hits_job coin bytes.now }
     {
-        HitsJob { table, coin }
+        let (table, ()) = read_input::<(), HasBet>(bytes, &HasBet { coin })?;
+        Ok(HitsJob { table, coin })
     }
+}
 
-    /// How many words of 64 bits it needs: a table of sums, and one for the masks of the printed holds.
-    pub(crate) fn words(&self) -> usize
-        ensures { result ≡ 2 * first_word self.now.table.deck 6 }
-    {
+impl Work for HitsJob {
+    ghost use Rattle.vp_hits.specs.HitsJob.{hits_due, hits_some};
+
+    ghost due = { hits_due };
+
+    ghost some_text = { hits_some };
+
+    /// A table of sums, and one for the masks of the printed holds.
+    #[tactic(auto, using(vp_count::proofs::Words::first_word_small))]
+    fn words(&self) -> usize {
         2 * table_words(self.table.deck)
     }
 
     /// Puts the lines of the pay lines, of none, and of the return.
-    pub(crate) fn put<K: Sink>(&self, region: &mut Region, sink: &mut K) -> Result<(), WriteFault>
-        requires { 2 * first_word self.now.table.deck 6 ≤ region.old }
-        ensures puts { Puts (K.told sink.old) (K.told sink.new) result
-            (written (hits_lines self.now)) }
-        ensures same { region.new ≡ region.old }
-    {
+    fn put<K: Sink>(&self, memory: &mut [u64], sink: &mut K) -> Result<(), WriteFault> {
         let many = table_words(self.table.deck);
-        let mut carver = region.carve();
+        let mut carver = Carver::over(memory);
         let words = carver.take_as_it_is(many).unwrap();
         let more = carver.take_as_it_is(many).unwrap();
         let counts = line_counts(&self.table, self.coin, words, more);

@@ -2,8 +2,8 @@ use Rattle.std.proofs.Common.{drop}
 use Rattle.std.specs.Prelude.{slice_index}
 use Rattle.vp_io.proofs.PutSoFar.{PutSoFar}
 use Rattle.vp_text.specs.Written.{written}
-use Rattle.vp_run.specs.Hits.{hit_lines}
-use Rattle.vp_run.proofs.hits.put_hits.Given as goal
+use Rattle.vp_hits.specs.HitsJob.{hit_lines}
+use Rattle.vp_hits.proofs.job.put_hits.Given as goal
 
 abbrev pub invariant-loop-place : goal.invariant-loop-place
 invariant-loop-place g l =

@@ -4,9 +4,9 @@ use Rattle.std.specs.Prelude.{slice_index}
 use Rattle.vp_io.proofs.Puts_laws.{Puts_as, Puts_stopped, Puts_then}
 use Rattle.vp_pay.specs.declared.table.PayLine.{PayLine}
 use Rattle.vp_text.specs.Written.{written}
-use Rattle.vp_run.specs.Hits.{hit_lines}
-use Rattle.vp_run.proofs.PrintedChances.{hits_text}
-use Rattle.vp_run.proofs.hits.put_counts.Goals as goal
+use Rattle.vp_hits.specs.HitsJob.{hit_lines}
+use Rattle.vp_hits.proofs.HitLines.{hits_text}
+use Rattle.vp_hits.proofs.job.put_counts.Goals as goal
 
 pub put_hits-requires-clause-few : goal.put_hits-requires-clause-few
 put_hits-requires-clause-few g c = rw c.as_slice.ensures.value (omega (arith, c.requires.bet.rules.most_lines))
