@@ -21,3 +21,6 @@ pub mod SumsMore
 pub mod Totals
 pub mod AuditLines
 pub mod AuditTells
+pub mod CompiledPools
+pub mod ShortLists
+pub mod CompileTells

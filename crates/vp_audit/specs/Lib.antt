@@ -8,3 +8,5 @@ pub mod Compiled
 pub mod Masked
 pub mod Audit
 pub mod AuditTells
+pub mod Compile
+pub mod CompileTells

@@ -2,6 +2,8 @@
 
 ghost use Rattle.vp_audit.specs.Audit.{AuditInputsAreRead};
 ghost use Rattle.vp_audit.specs.AuditTells.{AuditsPrintLosses};
+ghost use Rattle.vp_audit.specs.Compile.{CompileInputsAreRead};
+ghost use Rattle.vp_audit.specs.CompileTells.{CompiledListsAreAudited, CompiledListsLoseLittle};
 ghost use Rattle.vp_audit.specs.Masked.{BestHoldsLoseLeast};
 ghost use Rattle.vp_audit.specs.Laws.{AllowedByClasses, CompiledAreLists, DealsAreSharedOut, DecidedByClasses, ExceptedLoseAsLists, ExceptionsChargeTheirHold, GreatestByClasses, LeastAndLossAreTheBest, LeastByClasses, LeastIsAtMostTheBest, LossIsSharedOut, NothingChargesHoldingNothing, OrdersLoseAsLists, RowsAreWorthTheBest, RulesAllowTheGreatest, RulesChargeTheLeast};
 
@@ -69,4 +71,26 @@ pub fn audit_inputs_are_read()
 #[tactic(auto, using(crate::proofs::AuditTells::losses_printed))]
 pub fn audits_print_losses()
     ensures { AuditsPrintLosses }
+{}
+
+/// What `compile` takes for its input is what the lines of the input spell: a valid pay table that has the bet, then a pool
+/// of rules for it, and nothing else. Every other input is refused, exactly at its refused line.
+#[tactic(auto, using(crate::proofs::CompileTells::inputs_read))]
+pub fn compile_inputs_are_read()
+    ensures { CompileInputsAreRead }
+{}
+
+/// The text of `compile` to each pay table and pool that it takes is a list with the numbers that are said of it. The
+/// last of them is what the list loses, and it is at most the target; the rules stand in an order in which no exchange of
+/// two neighbours lowers what the list of the rules loses; and with exceptions for fewer classes, whatever holds they give,
+/// the list of the rules in this order loses more than the target.
+#[tactic(auto, using(crate::proofs::CompileTells::lists_lose_little))]
+pub fn compiled_lists_lose_little()
+    ensures { CompiledListsLoseLittle }
+{}
+
+/// What `compile` prints, behind its pay table, is an input of `audit`, short enough to be read, that says the table and
+/// the list that is printed: the loss that `audit` answers is the one that is printed.
+pub fn compiled_lists_are_audited()
+    ensures { CompiledListsAreAudited }
 {}

@@ -1,9 +1,9 @@
 -- The matrix is the pool's, so what is made of it is what is printed.
 use Rattle.std.proofs.Common.{ap, length, subst, sym, ◌∙◌}
 use Rattle.vp_compile.specs.Matrices.{Grid}
-use Rattle.vp_run.specs.Compile.{IsPooled}
-use Rattle.vp_run.proofs.CompiledPools.{compiled_result, matrix_as, row_number}
-use Rattle.vp_run.proofs.compile.CompileJob.compiled.Goals as goal
+use Rattle.vp_audit.specs.Compile.{IsPooled}
+use Rattle.vp_audit.proofs.CompiledPools.{compiled_result, matrix_as, row_number}
+use Rattle.vp_audit.proofs.compile_job.CompileJob.compiled.Goals as goal
 
 pub compile-requires : goal.compile-requires
 compile-requires g c =

@@ -1,5 +1,5 @@
 -- The ledger of the counter that nobody reads is the blank's.
-use Rattle.vp_run.proofs.compile.CompileJob.write.Given as goal
+use Rattle.vp_audit.proofs.compile_job.CompileJobHeapWork.write.Given as goal
 
 abbrev pub ghosts-compiled : goal.ghosts-compiled
 ghosts-compiled g a = record { name = a.blank.name; parts = a.blank.parts }

@@ -1,29 +1,22 @@
 //! `compile`: a strategy list out of a pool of rules.
 
-ghost use Rattle.std.specs.Prelude.{◌≡◌, ◌*◌, ◌≤◌, ◌<◌, IfOk, length};
-ghost use Rattle.vp_io.specs.Puts.{Puts};
-ghost use Rattle.vp_pay.specs.Bets.{IsBet};
-ghost use Rattle.vp_rule.specs.Valid.{IsPool};
-ghost use Rattle.vp_text.specs.Written.{written};
-ghost use Rattle.vp_pay.specs.Reads.{Reads};
-ghost use Rattle.vp_run.specs.Compile.{IsCompiled, IsPooled, class_number, compile_input, compile_lines, limit, said_lines};
+ghost use Rattle.std.specs.Prelude.{◌≡◌, ◌*◌, ◌<◌, IfOk, length};
 
+use crate::{fill_matrix, put_list};
 use std::alloc::{AllocError, Global};
 use std::marker::{Brand, Model};
 use std::sync::ledger::{Blank, Ledger};
-use vp_answer::Status;
-use vp_audit::{fill_matrix, put_list};
+use vp_answer::{HeapWork, Status, Stop};
 use vp_compile::{Compiled, compile};
 use vp_count::table_words;
 use vp_draws::return_denominator;
 use vp_hold::Game;
 use vp_io::{Sink, WriteFault};
 use vp_lines::{Word, put_lines};
-use vp_pay::PayTable;
-use vp_region::Region;
+use vp_pay::{HasBet, PayTable, read_input};
+use vp_region::Carver;
 use vp_rule::Pool;
 use vp_suit::class_count;
-use vp_text::{Lines, Refused};
 use vp_wild::Steps;
 
 /// A bet on a pay table, a pool for it, and how much of the return's denominator the list that is made may lose.
@@ -38,7 +31,7 @@ pub struct CompileJob {
 }
 
 impl Model for CompileJob {
-    ghost use Rattle.vp_run.specs.Compile.{IsCounted, Pooled};
+    ghost use Rattle.vp_audit.specs.Compile.{IsCounted, Pooled};
 
     ghost Value = { Pooled };
 
@@ -49,59 +42,26 @@ impl Model for CompileJob {
 
 impl CompileJob {
     ghost use Rattle.std.specs.Prelude.{◌≡◌, ◌*◌, ◌≤◌, IfOk, length};
-    ghost use Rattle.vp_answer.specs.Answers.{done};
-    ghost use Rattle.vp_answer.specs.Outcome.{Served};
     ghost use Rattle.vp_io.specs.Puts.{Puts};
     ghost use Rattle.vp_text.specs.Written.{written};
-    ghost use Rattle.vp_run.specs.Compile.{IsCompiled, IsPooled, class_number, compile_lines, compile_words, limit, said_lines};
+    ghost use Rattle.vp_audit.specs.Compile.{IsCompiled, class_number, compile_job, compile_lines, limit, said_lines};
 
-    pub(crate) fn new(table: PayTable, coin: u8, millionths: u32, pool: Pool) -> CompileJob
-        requires { IsPooled (record { table = table; coin = coin; millionths = millionths; pool = pool }) }
-        ensures { result ≡ record { table = table; coin = coin; millionths = millionths; pool = pool } }
+    /// What the bytes leave to do for a bet and for what may be lost: a pay table that has the bet, and a pool for it.
+    pub fn read(coin: u8, millionths: u32, bytes: &[u8]) -> Result<CompileJob, Stop>
+        requires some { 1 ≤ coin }
+        requires most { millionths ≤ 1000000 }
+        requires limit { length bytes.now ≤ 67108864 }
+        ensures { result ≡ compile_job coin millionths bytes.now }
     {
+        let (table, pool) = read_input::<Pool, HasBet>(bytes, &HasBet { coin })?;
         let classes = class_count(table.deck);
-        CompileJob {
+        Ok(CompileJob {
             table,
             coin,
             millionths,
             pool,
             classes,
-        }
-    }
-
-    /// How many words of 64 bits it needs: a table of sums, four words for each class of deals, and one for each class and
-    /// rule.
-    pub(crate) fn words(&self) -> usize
-        ensures { result ≡ compile_words self.now }
-    {
-        let classes = self.classes as usize;
-        table_words(self.table.deck) + 4 * classes + classes * self.pool.rules().len()
-    }
-
-    /// Writes the list that is made of the pool, behind the numbers that are said of it. It is made before anything is put:
-    /// where there is no memory for the places of its exceptions, nothing is.
-    pub(crate) fn write<K: Sink>(&self, alloc: Global, region: &mut Region, sink: &mut K) -> Status
-        requires { compile_words self.now ≤ region.old }
-        ensures served { Served (done (written (compile_lines self.now))) (K.told sink.old) (K.told sink.new) result }
-        ensures same { region.new ≡ region.old }
-    {
-        let classes = self.classes as usize;
-        let mut carver = region.carve();
-        let words = carver.take_as_it_is(table_words(self.table.deck)).unwrap();
-        let heads = carver.take_as_it_is(3 * classes).unwrap();
-        let owner = carver.take_as_it_is(classes).unwrap();
-        let cells = carver
-            .take_as_it_is(classes * self.pool.rules().len())
-            .unwrap();
-        let game = Game::of(&self.table, self.coin, words);
-        let Ok(compiled) = self.compiled::<Brand>(alloc, &game, heads, cells, owner, Blank::new(1))
-        else {
-            return Status::NoMemory;
-        };
-        match self.put_compiled(&game, &compiled, sink) {
-            Ok(()) => Status::Done,
-            Err(WriteFault) => Status::WriteFault,
-        }
+        })
     }
 
     /// What is made of the pool; the blank is for a counter that nobody reads.
@@ -183,23 +143,37 @@ impl CompileJob {
     }
 }
 
-/// The pay table and the pool that the bytes say, for a bet of `coin`.
-#[tactic(auto, unfolding(vp_rule::specs::Inputs::pool_input))]
-pub(crate) fn read_compile_input(bytes: &[u8], coin: u8) -> Result<(PayTable, Pool), Refused>
-    requires some { 1 ≤ coin }
-    requires limit { length bytes.now ≤ 67108864 }
-    ensures says { Reads (λ read. read) result (compile_input coin bytes.now) }
-    ensures bet { IfOk result (λ read. IsBet read.0 coin) }
-    ensures pool { IfOk result (λ read. IsPool read.0 read.1) }
-{
-    let mut lines = Lines::new(bytes);
-    let table = PayTable::read(&mut lines)?;
-    if table.coins < coin {
-        return Err(Refused { line: lines.last() });
+impl HeapWork for CompileJob {
+    ghost use Rattle.vp_audit.specs.Compile.{compile_due, compile_some};
+
+    ghost due = { compile_due };
+
+    ghost some_text = { compile_some };
+
+    /// A table of sums, four words for each class of deals, and one for each class and rule.
+    fn words(&self) -> usize {
+        let classes = self.classes as usize;
+        table_words(self.table.deck) + 4 * classes + classes * self.pool.rules().len()
     }
-    let pool = Pool::read(&mut lines, &table)?;
-    match lines.next() {
-        None => Ok((table, pool)),
-        Some(words) => Err(Refused { line: words.line() }),
+
+    /// The list is made before anything is put: where there is no memory for the places of its exceptions, nothing is.
+    fn write<K: Sink>(&self, alloc: Global, memory: &mut [u64], sink: &mut K) -> Status {
+        let classes = self.classes as usize;
+        let mut carver = Carver::over(memory);
+        let words = carver.take_as_it_is(table_words(self.table.deck)).unwrap();
+        let heads = carver.take_as_it_is(3 * classes).unwrap();
+        let owner = carver.take_as_it_is(classes).unwrap();
+        let cells = carver
+            .take_as_it_is(classes * self.pool.rules().len())
+            .unwrap();
+        let game = Game::of(&self.table, self.coin, words);
+        let Ok(compiled) = self.compiled::<Brand>(alloc, &game, heads, cells, owner, Blank::new(1))
+        else {
+            return Status::NoMemory;
+        };
+        match self.put_compiled(&game, &compiled, sink) {
+            Ok(()) => Status::Done,
+            Err(WriteFault) => Status::WriteFault,
+        }
     }
 }

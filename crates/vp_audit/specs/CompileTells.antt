@@ -1,10 +1,10 @@
--- What the answer of `compile` tells.
-use Rattle.std.specs.Prelude.{◌≡◌, ℕ, ◌+◌, ◌*◌, ◌<◌, ◌≤◌, List, ◌++◌, length, Some, Ok}
-use Rattle.vp_text.specs.Lines.{Word}
+-- What the text of `compile` tells.
+use Rattle.std.specs.Prelude.{◌≡◌, ℕ, ◌+◌, ◌*◌, ◌<◌, ◌≤◌, List, ◌++◌, length, Ok}
 use Rattle.vp_text.specs.Written.{written}
 use Rattle.vp_pay.specs.Spelling.{table_text}
 use Rattle.vp_pay.specs.declared.table.PayTable.{PayTable}
-use Rattle.vp_draws.specs.Draws.{return_denominator}
+use Rattle.vp_suit.specs.Classes.{IsDeal}
+use Rattle.vp_draws.specs.Draws.{IsMean, return_denominator, total, value}
 use Rattle.vp_rule.specs.Lists.{RulePool}
 use Rattle.vp_compile.specs.Excepted.{ArePlaces}
 use Rattle.vp_compile.specs.Matrices.{IsOrder}
@@ -12,14 +12,10 @@ use Rattle.vp_compile.specs.Orders.{exchange}
 use Rattle.vp_audit.specs.Audits.{audited, loss}
 use Rattle.vp_audit.specs.Compiled.{ordered_list}
 use Rattle.vp_audit.specs.Masked.{masked_list}
-use Rattle.vp_answer.specs.Answers.{Answer, done}
+use Rattle.vp_answer.specs.Answers.{Answer, answer_of, done}
 use Rattle.vp_answer.specs.declared.status.Status.TheVariants.{Done}
-use Rattle.vp_run.specs.Answer.{answer}
-use Rattle.vp_run.specs.Audit.{Listed, audit_input, audit_lines}
-use Rattle.vp_command.specs.Commands.{command_of}
-use Rattle.vp_run.specs.Compile.{Pooled, class_number, compile_input, compile_lines, excepted, last_places, printed_list}
-use Rattle.vp_command.specs.declared.command.Command.TheVariants.{Over}
-use Rattle.vp_command.specs.declared.command.Task.TheVariants.{Audit, Compile}
+use Rattle.vp_audit.specs.Audit.{Listed, audit_due, audit_input, audit_job, audit_lines}
+use Rattle.vp_audit.specs.Compile.{Pooled, class_number, compile_due, compile_input, compile_lines, excepted, last_places, printed_list}
 
 -- ---- what is printed loses little
 
@@ -43,19 +39,21 @@ FewerAreTooFew p =
     → ¬ IsWithin p (loss p.table p.coin (masked_list p.table p.pool (last_places p) places mask))
 
 -- the answer are the numbers and the list. The last number is the loss of this list, and no more than may be lost; its rules stand in an
--- order that no exchange of two neighbours betters; and no fewer exceptions would do
+-- order that no exchange of two neighbours betters; and no fewer exceptions would do. Over the common denominator of the deck, the value of
+-- each of the 32 holds of a deal is its mean payment over all draws
 pub record TellsList (p : Pooled) (due : Answer) : Type 0 where
   pub status : due.status ≡ Done
   pub text : due.text ≡ written (compile_lines p)
+  pub mean : (cards : List ℕ) → IsDeal p.table.deck cards → (other : ℕ) → other < 32
+      → IsMean p.table.deck cards other (total p.table p.coin cards other) (value p.table p.coin cards other)
   pub within : IsWithin p (loss p.table p.coin (printed_list p))
   pub order : NoExchangeHelps p (last_places p)
   pub fewest : FewerAreTooFew p
 
--- the answer of `compile` to each pay table and pool that it takes
+-- the text of `compile` to each pay table and pool that it takes
 abbrev pub CompiledListsLoseLittle : Type 0
-CompiledListsLoseLittle = (words : List Word) (coin millionths : ℕ) (bytes : List ℕ) (table : PayTable) (pool : RulePool)
-    → command_of words ≡ Some (Over (Compile coin millionths)) → compile_input coin bytes ≡ Ok (table, pool)
-    → TellsList (record { table = table; coin = coin; millionths = millionths; pool = pool }) (answer words bytes)
+CompiledListsLoseLittle = (coin millionths : ℕ) (bytes : List ℕ) (table : PayTable) (pool : RulePool) → 1 ≤ coin → millionths ≤ 1000000 → compile_input coin bytes ≡ Ok (table, pool)
+    → TellsList (record { table = table; coin = coin; millionths = millionths; pool = pool }) (answer_of (compile_due (record { table = table; coin = coin; millionths = millionths; pool = pool })).said)
 
 -- ---- what is printed is audited
 
@@ -68,11 +66,11 @@ listed p = record { table = p.table; coin = p.coin; list = printed_list p }
 pub record IsAudited (p : Pooled) (text : List ℕ) : Type 0 where
   pub short : length (written (table_text p.table) ++ text) ≤ 67108864
   pub says : audit_input p.coin (written (table_text p.table) ++ text) ≡ Ok (p.table, printed_list p)
-  pub answered : (words : List Word) → command_of words ≡ Some (Over (Audit p.coin)) → answer words (written (table_text p.table) ++ text) ≡ done (written (audit_lines (listed p)))
+  pub job : audit_job p.coin (written (table_text p.table) ++ text) ≡ Ok (listed p)
+  pub answered : done (audit_due (listed p)).text ≡ done (written (audit_lines (listed p)))
   pub loss : (audited p.table p.coin (printed_list p)).loss ≡ loss p.table p.coin (printed_list p)
 
--- the text that `compile` answers to each pay table and pool that it takes
+-- the text of `compile` to each pay table and pool that it takes
 abbrev pub CompiledListsAreAudited : Type 0
-CompiledListsAreAudited = (words : List Word) (coin millionths : ℕ) (bytes : List ℕ) (table : PayTable) (pool : RulePool)
-    → command_of words ≡ Some (Over (Compile coin millionths)) → compile_input coin bytes ≡ Ok (table, pool)
-    → IsAudited (record { table = table; coin = coin; millionths = millionths; pool = pool }) (answer words bytes).text
+CompiledListsAreAudited = (coin millionths : ℕ) (bytes : List ℕ) (table : PayTable) (pool : RulePool) → 1 ≤ coin → millionths ≤ 1000000 → compile_input coin bytes ≡ Ok (table, pool)
+    → IsAudited (record { table = table; coin = coin; millionths = millionths; pool = pool }) (compile_due (record { table = table; coin = coin; millionths = millionths; pool = pool })).said.text

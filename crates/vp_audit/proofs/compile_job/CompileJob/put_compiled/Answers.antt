@@ -1,13 +1,13 @@
 -- The list is put behind the numbers that are said of it.
-use Rattle.std.proofs.Common.{◌≡◌, length, sym, ap, subst, ◌∙◌}
+use Rattle.std.proofs.Common.{length, sym, ap, subst, ◌∙◌}
 use Rattle.vp_io.proofs.Puts_laws.{Puts_as, Puts_stopped, Puts_then}
 use Rattle.vp_pay.specs.declared.table.PayTable.{PayTable}
 use Rattle.vp_suit.specs.Classes.{representatives}
 use Rattle.vp_compile.specs.Excepted.{ArePlaces}
 use Rattle.vp_compile.specs.Matrices.{IsOrder}
-use Rattle.vp_run.specs.Compile.{IsPooled, Pooled, excepted, last_places}
-use Rattle.vp_run.proofs.CompiledPools.{compile_text, last_whole, list_as, some_places}
-use Rattle.vp_run.proofs.compile.CompileJob.put_compiled.Goals as goal
+use Rattle.vp_audit.specs.Compile.{IsPooled, Pooled, excepted, last_places}
+use Rattle.vp_audit.proofs.CompiledPools.{compile_text, last_whole, list_as, some_places}
+use Rattle.vp_audit.proofs.compile_job.CompileJob.put_compiled.Goals as goal
 
 pub returns-in_err-put_said : goal.returns-in_err-put_said
 returns-in_err-put_said g c = Puts_as (sym (compile_text c.args.self.now)) (Puts_stopped _ c.in_err-put_said.was c.from_residual.ensures.0 c.put_said.ensures)

@@ -25,7 +25,7 @@ use Rattle.vp_compile.proofs.Settled.{settled_last}
 use Rattle.vp_audit.specs.Audits.{loss}
 use Rattle.vp_audit.specs.Compiled.{class_row, compiled_list, pool_rows}
 use Rattle.vp_audit.proofs.OrderLosses.{left_is, order_is, worth_is}
-use Rattle.vp_run.specs.Compile.{IsCompiled, IsPooled, Pooled, class_number, compile_lines, excepted, first_places, last_places, limit, matrix, printed_list, said_lines}
+use Rattle.vp_audit.specs.Compile.{IsCompiled, IsPooled, Pooled, class_number, compile_lines, excepted, first_places, last_places, limit, matrix, printed_list, said_lines}
 
 -- ---- its words
 

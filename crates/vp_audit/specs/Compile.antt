@@ -1,8 +1,9 @@
 -- `compile`: what its input says, what is made of a pool, and what is printed. Input and text are this program's own (docs/FORMATS.md,
 -- `vpoker compile`).
-use Rattle.std.specs.Prelude.{◌≡◌, ℕ, ◌+◌, ◌*◌, ◌/◌, ◌≤◌, List, [], ◌∷◌, ◌++◌, Result, codes, length}
+use Rattle.std.specs.Prelude.{◌≡◌, ℕ, ◌+◌, ◌*◌, ◌/◌, ◌<◌, ◌≤◌, List, refl, [], ◌∷◌, ◌++◌, Result, codes, length}
 use Rattle.vp_text.specs.Lines.{Word}
 use Rattle.vp_text.specs.Sections.{Text}
+use Rattle.vp_text.specs.Written.{fraction, written}
 use Rattle.vp_suit.specs.Classes.{representatives}
 use Rattle.vp_pay.specs.Bets.{IsBet}
 use Rattle.vp_pay.specs.declared.table.PayTable.{PayTable}
@@ -18,8 +19,11 @@ use Rattle.vp_compile.specs.Matrices.{Grid}
 use Rattle.vp_compile.specs.declared.compiling.Compiled.{Compiled}
 use Rattle.vp_audit.specs.Audits.{loss}
 use Rattle.vp_audit.specs.Compiled.{compiled_list, ordered_list, pool_rows}
-use Rattle.vp_pay.specs.Inputs.{AreRead}
-use Rattle.vp_run.specs.Deal.{fraction, has_bet}
+use Rattle.vp_pay.specs.Inputs.{AreRead, has_bet}
+use Rattle.vp_answer.specs.Jobs.{DueOf, read_as}
+use Rattle.vp_answer.proofs.SomeAnswers.{some_lines}
+use Rattle.vp_answer.specs.declared.ending.Ending.TheVariants.{Done}
+use Rattle.vp_answer.specs.declared.stop.Stop.{Stop}
 
 -- what an input of `compile` says: a pay table that has the bet, then a pool for it, and nothing else; or the line where it is refused
 abbrev pub compile_input : ℕ → List ℕ → Result (PayTable × RulePool) ℕ
@@ -106,6 +110,22 @@ class_number p = length (representatives p.table.deck)
 -- a table of sums, four words for each class, and one for each class and rule
 abbrev pub compile_words : Pooled → ℕ
 compile_words p = first_word p.table.deck 6 + 4 * class_number p + class_number p * length p.pool.rules
+
+-- ---- what is due
+
+-- these words of memory, and the text, which is whole
+abbrev pub compile_due : Pooled → DueOf
+compile_due p = record { words = compile_words p; said = record { ending = Done; text = written (compile_lines p) } }
+
+-- it has a line
+abbrev pub compile_some : (p : Pooled) → 0 < length (compile_due p).said.text
+unfolding said_lines
+compile_some p = some_lines (compile_lines p) refl
+
+-- what an input leaves to do
+abbrev pub compile_job : ℕ → ℕ → List ℕ → Result Pooled Stop
+compile_job coin millionths bytes =
+    read_as (λ read. record { table = read.0; coin = coin; millionths = millionths; pool = read.1 }) (compile_input coin bytes)
 
 -- a pay table that has the bet, and a pool for it
 abbrev pub CompileInputsAreRead : Type 0

@@ -1,5 +1,5 @@
--- What the answer of `compile` tells, and that its list is audited.
-use Rattle.std.proofs.Common.{◌≡◌, ◌≢◌, ℕ, ◌+◌, ◌*◌, ◌-◌, ◌/◌, ◌^◌, ◌<◌, ◌≤◌, List, [], ◌∷◌, ◌++◌, map, length, refl, sym, ap, subst, ◌∙◌, arith, append_assoc, append-nil, length-append, Some}
+-- What the text of `compile` tells, and that its list is audited.
+use Rattle.std.proofs.Common.{◌≡◌, ◌≢◌, ℕ, ◌*◌, ◌-◌, ◌^◌, ◌<◌, ◌≤◌, List, [], ◌∷◌, ◌++◌, map, length, refl, sym, ap, subst, ◌∙◌, arith, append_assoc, append-nil, length-append}
 use Rattle.std.specs.Prelude.{IsTrue, Ok, codes}
 use Rattle.std.specs.Fmt.{decimal}
 use Rattle.std.specs.List.{AllByRecursion, range_with_len, sum_by}
@@ -11,7 +11,7 @@ use Rattle.std.proofs.lemmas.List.FromFn.{length-range_with_len}
 use Rattle.std.proofs.lemmas.List.Sums.{count_by-le-length, length-filter, sum_by-cons}
 use Rattle.vp_text.specs.Lines.{Word, feed_of}
 use Rattle.vp_text.specs.Sections.{Text, text_of}
-use Rattle.vp_text.specs.Written.{IsPlainLine, IsPlainWord, is_plain, line_of, spaced, written}
+use Rattle.vp_text.specs.Written.{IsPlainLine, IsPlainWord, fraction, is_plain, line_of, spaced, written}
 use Rattle.vp_text.proofs.Comments.{comment_read}
 use Rattle.vp_text.proofs.PlainWords.{plain_key, plain_number}
 use Rattle.vp_text.proofs.Room.{digits_of_64, room, room-cons, room_lines, two_words}
@@ -24,7 +24,7 @@ use Rattle.vp_draws.proofs.Bounds.{denominator_fits, sum_of_best_fits}
 use Rattle.vp_rule.specs.Lists.{RuleList, RulePool}
 use Rattle.vp_rule.specs.Spelling.{list_text}
 use Rattle.vp_rule.specs.Valid.{IsList}
-use Rattle.vp_rule.proofs.Inputs.{list_said, pool_said}
+use Rattle.vp_rule.proofs.Inputs.{lists_read, pools_read}
 use Rattle.vp_rule.proofs.PlainLists.{plain_list}
 use Rattle.vp_compile.specs.Excepted.{ArePlaces, excepted_places, is_needed, loss_given, loss_left}
 use Rattle.vp_compile.specs.Orders.{exchange}
@@ -37,35 +37,27 @@ use Rattle.vp_audit.specs.Compiled.{best_exception, ordered_list}
 use Rattle.vp_audit.proofs.CompiledLists.{compiled_is}
 use Rattle.vp_audit.proofs.MaskedLists.{best_lose_least}
 use Rattle.vp_audit.proofs.OrderLosses.{left_is, order_is}
-use Rattle.vp_answer.specs.Answers.{Answer, answer_read, done}
-use Rattle.vp_run.specs.Answer.{answer, compile_job, job_answer, read_as}
-use Rattle.vp_run.specs.Audit.{audit_input}
-use Rattle.vp_command.specs.Commands.{command_of}
-use Rattle.vp_run.specs.Compile.{IsPooled, Pooled, compile_input, compile_lines, excepted, first_places, last_places, limit, matrix, printed_list, said_lines}
-use Rattle.vp_run.specs.Deal.{fraction, has_bet}
-use Rattle.vp_run.specs.PrintedLists.{CompiledListsAreAudited, CompiledListsLoseLittle, FewerAreTooFew, IsAudited, IsWithin, NoExchangeHelps}
-use Rattle.vp_command.specs.declared.command.Command.TheVariants.{Over}
-use Rattle.vp_command.specs.declared.command.Task.TheVariants.{Compile}
-use Rattle.vp_command.proofs.CommandWords.{in_range}
-use Rattle.vp_run.proofs.CompiledPools.{fewest, last_whole, printed_loss, row_number, some_places}
-use Rattle.vp_run.proofs.FittingBets.{bet_fits}
-use Rattle.vp_run.proofs.NoCommand.{answer_as}
-use Rattle.vp_run.proofs.PrintedLosses.{audit_as}
-use Rattle.vp_run.proofs.ShortLists.{short_list}
+use Rattle.vp_answer.specs.Jobs.{read_as}
+use Rattle.vp_pay.specs.Inputs.{has_bet}
+use Rattle.vp_pay.proofs.FittingBets.{bet_fits}
+use Rattle.vp_suit.proofs.TurnedDraws.{dealt_is}
+use Rattle.vp_draws.proofs.Values.{value_mean}
+use Rattle.vp_audit.specs.Audit.{audit_input}
+use Rattle.vp_audit.specs.Compile.{CompileInputsAreRead, IsPooled, Pooled, compile_input, compile_lines, excepted, first_places, last_places, limit, matrix, printed_list, said_lines}
+use Rattle.vp_audit.specs.CompileTells.{CompiledListsAreAudited, CompiledListsLoseLittle, FewerAreTooFew, IsAudited, IsWithin, NoExchangeHelps}
+use Rattle.vp_audit.proofs.CompiledPools.{fewest, last_whole, printed_loss, row_number, some_places}
+use Rattle.vp_audit.proofs.ShortLists.{short_list}
 
--- ---- what `compile` answers
+-- ---- what `compile` takes
 
-pooled : (words : List Word) (coin millionths : ℕ) (bytes : List ℕ) (table : PayTable) (pool : RulePool) → command_of words ≡ Some (Over (Compile coin millionths)) → compile_input coin bytes ≡ Ok (table, pool)
+pub inputs_read : CompileInputsAreRead
+inputs_read coin = pools_read (has_bet coin)
+
+pooled : (coin millionths : ℕ) (bytes : List ℕ) (table : PayTable) (pool : RulePool) → 1 ≤ coin → millionths ≤ 1000000 → compile_input coin bytes ≡ Ok (table, pool)
     → IsPooled (record { table = table; coin = coin; millionths = millionths; pool = pool })
-pooled words coin millionths bytes table pool is says =
-    let found = (pool_said (has_bet coin) bytes (table, pool)).0 says in
-    let range = in_range words (Compile coin millionths) is in
-    record { bet = record { rules = found.0.0; some = range.some_coin; within = bet_fits coin table.coins found.1 }; most = range.most; pool = found.0.1 }
-
-compile_as : (words : List Word) (coin millionths : ℕ) (bytes : List ℕ) (table : PayTable) (pool : RulePool) → command_of words ≡ Some (Over (Compile coin millionths)) → compile_input coin bytes ≡ Ok (table, pool)
-    → done (written (compile_lines (record { table = table; coin = coin; millionths = millionths; pool = pool }))) ≡ answer words bytes
-compile_as words coin millionths bytes table pool is says =
-    ap (λ r. answer_read job_answer (read_as (compile_job coin millionths) r)) (sym says) ∙ answer_as words (Some (Over (Compile coin millionths))) bytes is
+pooled coin millionths bytes table pool some most says =
+    let found = ((pools_read (has_bet coin)).spelled bytes (table, pool)).0 says in
+    record { bet = record { rules = found.0.0; some = some; within = bet_fits coin table.coins found.1 }; most = most; pool = found.0.1 }
 
 -- ---- the list that is printed loses little
 
@@ -111,13 +103,13 @@ module _ (p : Pooled) (is : IsPooled p) where
       above_limit _ (omega (arith, given, given_best places, left, masked))
 
 pub lists_lose_little : CompiledListsLoseLittle
-lists_lose_little words coin millionths bytes table pool asks says =
+lists_lose_little coin millionths bytes table pool some most says =
     let p : Pooled = record { table = table; coin = coin; millionths = millionths; pool = pool } in
-    let is = pooled words coin millionths bytes table pool asks says in
-    let due = compile_as words coin millionths bytes table pool asks says in
+    let is = pooled coin millionths bytes table pool some most says in
     record {
-      status = ap (λ (a : Answer). a.status) (sym due);
-      text = ap (λ (a : Answer). a.text) (sym due);
+      status = refl;
+      text = refl;
+      mean = λ cards deal other low. value_mean table coin cards other is.bet.rules (dealt_is table.deck cards deal);
       within = within p is;
       order = order_best p is;
       fewest = too_few p is;
@@ -259,7 +251,7 @@ module _ (p : Pooled) (is : IsPooled p) where
       )
 
   file_says : audit_input p.coin file ≡ Ok (p.table, printed_list p)
-  file_says = (list_said (has_bet p.coin) file (p.table, printed_list p)).1 ((is.bet.rules, listed_is), le-leb p.coin p.table.coins is.bet.within, file_spells)
+  file_says = ((lists_read (has_bet p.coin)).spelled file (p.table, printed_list p)).1 ((is.bet.rules, listed_is), le-leb p.coin p.table.coins is.bet.within, file_spells)
 
   many_exceptions : length (printed_list p).exceptions ≡ length (excepted p)
   unfolding printed_list
@@ -291,11 +283,11 @@ module _ (p : Pooled) (is : IsPooled p) where
   is_audited = record {
     short = file_short;
     says = file_says;
-    answered = λ words asks. sym (audit_as words p.coin file p.table (printed_list p) asks file_says);
+    job = ap (read_as (λ read. record { table = read.0; coin = p.coin; list = read.1 })) file_says;
+    answered = refl;
     loss = refl;
   }
 
 pub lists_audited : CompiledListsAreAudited
-lists_audited words coin millionths bytes table pool asks says =
-    let p : Pooled = record { table = table; coin = coin; millionths = millionths; pool = pool } in
-    subst (IsAudited p) (ap (λ (a : Answer). a.text) (compile_as words coin millionths bytes table pool asks says)) (is_audited p (pooled words coin millionths bytes table pool asks says))
+lists_audited coin millionths bytes table pool some most says =
+    is_audited (record { table = table; coin = coin; millionths = millionths; pool = pool }) (pooled coin millionths bytes table pool some most says)

@@ -1,5 +1,0 @@
-use Rattle.vp_run.proofs.CompiledAnswers.{lists_audited}
-use Rattle.vp_run.proofs.laws.compiled_lists_are_audited.Goals as goal
-
-pub returns : goal.returns
-returns c = lists_audited
