@@ -5,9 +5,9 @@ use Rattle.vp_text.specs.Lines.{feed_of}
 use Rattle.vp_text.specs.declared.refused.Refused.{Refused}
 use Rattle.vp_loggram.specs.Logs.{LogValue}
 use Rattle.vp_replay.specs.Summaries.{AllBet}
-use Rattle.vp_run.specs.Play.{IsPlayed, Played, log_of}
-use Rattle.vp_run.proofs.MadeLogs.{log_accepted, takes_log}
-use Rattle.vp_run.proofs.play.PlayJob.read.Goals as goal
+use Rattle.vp_gen.specs.Play.{IsPlayed, Played, log_of}
+use Rattle.vp_gen.proofs.MadeLogs.{log_accepted, takes_log}
+use Rattle.vp_gen.proofs.job.PlayJob.read_log.Goals as goal
 
 same_value : (a b : LogValue) (read : Result LogValue Refused) → read ≡ Ok a → read ≡ Ok b → a ≡ b
 same_value a b read e f = cc

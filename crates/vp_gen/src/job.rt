@@ -3,19 +3,19 @@
 ghost use Rattle.vp_card.specs.Cards.{IsDeck};
 ghost use Rattle.vp_io.specs.Puts.{Puts};
 ghost use Rattle.vp_text.specs.Written.{written};
-ghost use Rattle.vp_run.specs.Play.{played_lines};
+ghost use Rattle.vp_gen.specs.Play.{played_lines};
 
+use crate::make_log;
 use std::alloc::{AllocError, Global};
 use std::marker::Model;
-use vp_answer::Status;
+use vp_answer::{HeapWork, Status, Stop};
 use vp_count::table_words;
-use vp_gen::make_log;
 use vp_hold::Game;
 use vp_io::{Sink, WriteFault};
 use vp_lines::{Word, put_words};
 use vp_loggram::Log;
-use vp_pay::PayTable;
-use vp_region::Region;
+use vp_pay::{HasBet, PayTable, read_input};
+use vp_region::Carver;
 use vp_replay::{Summary, put_summary, summary_at};
 use vp_text::Lines;
 
@@ -29,7 +29,7 @@ pub struct PlayJob {
 }
 
 impl Model for PlayJob {
-    ghost use Rattle.vp_run.specs.Play.{IsPlayed, Played};
+    ghost use Rattle.vp_gen.specs.Play.{IsPlayed, Played};
 
     ghost Value = { Played };
 
@@ -39,54 +39,31 @@ impl Model for PlayJob {
 }
 
 impl PlayJob {
-    ghost use Rattle.std.specs.Prelude.{◌≡◌, ◌+◌, ◌*◌, ◌≤◌, IfOk, None, length};
-    ghost use Rattle.vp_answer.specs.Answers.{done};
-    ghost use Rattle.vp_answer.specs.Outcome.{Served};
+    ghost use Rattle.std.specs.Prelude.{◌≡◌, ◌≤◌, IfOk, None, length};
     ghost use Rattle.vp_count.specs.Table.{first_word};
+    ghost use Rattle.vp_gen.specs.Play.{log_of, play_job};
     ghost use Rattle.vp_loggram.specs.Logs.{IsLog};
     ghost use Rattle.vp_loggram.specs.Spelling.{log_text};
     ghost use Rattle.vp_replay.specs.Rules.{break_in};
     ghost use Rattle.vp_replay.specs.Summaries.{AllBet, summary_of};
-    ghost use Rattle.vp_run.specs.Play.{IsPlayed, log_of, play_lines};
     ghost use Rattle.vp_text.specs.Written.{written};
 
-    pub(crate) fn new(table: PayTable, coin: u8, seed: u64, games: u32) -> PlayJob
-        requires { IsPlayed (record { table = table; coin = coin; seed = seed; games = games }) }
-        ensures { result ≡ record { table = table; coin = coin; seed = seed; games = games } }
+    /// What the bytes leave to do for a bet, a seed and a number of games: a pay table that has the bet.
+    #[tactic(auto, unfolding(vp_pay::specs::Inputs::table_input, vp_pay::specs::Inputs::section_input))]
+    pub fn read(coin: u8, seed: u64, games: u32, bytes: &[u8]) -> Result<PlayJob, Stop>
+        requires some { 1 ≤ coin }
+        requires games { 1 ≤ games }
+        requires most { games ≤ 100000 }
+        requires limit { length bytes.now ≤ 67108864 }
+        ensures { result ≡ play_job coin seed games bytes.now }
     {
-        PlayJob {
+        let (table, ()) = read_input::<(), HasBet>(bytes, &HasBet { coin })?;
+        Ok(PlayJob {
             table,
             coin,
             seed,
             games,
-        }
-    }
-
-    /// How many words of 64 bits it needs: as many as a table of sums for each bet, and one more. The table of its bet is
-    /// the one that is made in them.
-    #[tactic(auto, using(crate::proofs::ReplayWords::few_words))]
-    pub(crate) fn words(&self) -> usize
-        ensures { result ≡ (self.now.table.coins + 1) * first_word self.now.table.deck 6 }
-    {
-        (self.table.coins as usize + 1) * table_words(self.table.deck)
-    }
-
-    /// Writes the seed, the number of games, and the numbers of the log. The log is made before anything is put: where there
-    /// is no memory for it, nothing is.
-    pub(crate) fn write<K: Sink>(&self, alloc: Global, region: &mut Region, sink: &mut K) -> Status
-        requires { (self.now.table.coins + 1) * first_word self.now.table.deck 6 ≤ region.old }
-        ensures served { Served (done (written (play_lines self.now))) (K.told sink.old) (K.told sink.new) result }
-        ensures same { region.new ≡ region.old }
-    {
-        let mut carver = region.carve();
-        let words = carver.take_as_it_is(table_words(self.table.deck)).unwrap();
-        let Ok(summary) = self.summary(alloc, words) else {
-            return Status::NoMemory;
-        };
-        match put_played(self.table.deck, self.seed, self.games, &summary, sink) {
-            Ok(()) => Status::Done,
-            Err(WriteFault) => Status::WriteFault,
-        }
+        })
     }
 
     /// The numbers of the log, which is made and read. The error is want of memory. All its games bet the same, so the
@@ -97,11 +74,11 @@ impl PlayJob {
     {
         let game = Game::of(&self.table, self.coin, words);
         let text = make_log(alloc, &game, self.seed, self.games)?;
-        Ok(summary_at(&game, &self.read(&text)))
+        Ok(summary_at(&game, &self.read_log(&text)))
     }
 
     /// The log that its text says. It is in the grammar, whatever the seed, and no game breaks a law.
-    fn read<'a>(&self, text: &'a [u8]) -> Log<'a>
+    fn read_log<'a>(&self, text: &'a [u8]) -> Log<'a>
         requires { text.now ≡ written (log_text (log_of self.now)) }
         ensures log { result ≡ log_of self.now }
         ensures grammar { IsLog self.now.table.deck result }
@@ -110,6 +87,34 @@ impl PlayJob {
     {
         let deck = self.table.deck;
         Log::read(&mut Lines::new(text), deck).unwrap()
+    }
+}
+
+impl HeapWork for PlayJob {
+    ghost use Rattle.vp_gen.specs.Play.{play_due, play_some};
+
+    ghost due = { play_due };
+
+    ghost some_text = { play_some };
+
+    /// As many as a table of sums for each bet, and one more. The table of its bet is the one that is made in them.
+    #[tactic(auto, using(vp_replay::proofs::ReplayWords::few_words))]
+    fn words(&self) -> usize {
+        (self.table.coins as usize + 1) * table_words(self.table.deck)
+    }
+
+    /// Writes the seed, the number of games, and the numbers of the log. The log is made before anything is put: where there
+    /// is no memory for it, nothing is.
+    fn write<K: Sink>(&self, alloc: Global, memory: &mut [u64], sink: &mut K) -> Status {
+        let mut carver = Carver::over(memory);
+        let words = carver.take_as_it_is(table_words(self.table.deck)).unwrap();
+        let Ok(summary) = self.summary(alloc, words) else {
+            return Status::NoMemory;
+        };
+        match put_played(self.table.deck, self.seed, self.games, &summary, sink) {
+            Ok(()) => Status::Done,
+            Err(WriteFault) => Status::WriteFault,
+        }
     }
 }
 

@@ -1,5 +1,5 @@
 -- The log that is made is read as it is, and its lines are put behind the first one.
-use Rattle.std.proofs.Common.{◌≡◌, ℕ, [], ◌∷◌, ◌++◌, sym, subst, ◌∙◌}
+use Rattle.std.proofs.Common.{◌≡◌, ℕ, [], ◌∷◌, ◌++◌, sym, subst}
 use Rattle.std.specs.Prelude.{codes, Result, Ok}
 use Rattle.std.specs.Fmt.{decimal}
 use Rattle.std.proofs.lemmas.List.Concat.{flat_map-cons}
@@ -14,7 +14,7 @@ use Rattle.vp_replay.specs.Summaries.{summary_lines}
 use Rattle.vp_replay.specs.declared.summary.Summary.{Summary}
 use Rattle.vp_gen.specs.Promises.{IsAccepted}
 use Rattle.vp_gen.proofs.Accepted.{accepted}
-use Rattle.vp_run.specs.Play.{IsPlayed, Played, log_of, played_lines}
+use Rattle.vp_gen.specs.Play.{IsPlayed, Played, log_of, played_lines}
 
 -- ---- the log
 
