@@ -1,8 +1,8 @@
 -- The lines of the sessions before the place were put, and the unlawful ones among them counted.
 use Rattle.vp_io.proofs.PutSoFar.{PutSoFar}
-use Rattle.vp_run.specs.Sessions.{sessions_text}
-use Rattle.vp_run.proofs.SessionLines.{Counted, lines_left}
-use Rattle.vp_run.proofs.sessions.put_sessions.Given as goal
+use Rattle.vp_sessions.specs.Sessions.{sessions_text}
+use Rattle.vp_sessions.proofs.SessionLines.{Counted, lines_left}
+use Rattle.vp_sessions.proofs.job.put_sessions.Given as goal
 
 abbrev pub invariant-loop-place : goal.invariant-loop-place
 invariant-loop-place g l = record {

@@ -7,7 +7,7 @@ use Rattle.vp_text.specs.declared.refused.Refused.{Refused}
 use Rattle.vp_loggram.specs.Logs.{IsLog, LogValue}
 use Rattle.vp_loggram.specs.Spelling.{log_text}
 use Rattle.vp_csv.specs.Sessions.{session_at}
-use Rattle.vp_run.proofs.sessions.log_at.Goals as goal
+use Rattle.vp_sessions.proofs.job.log_at.Goals as goal
 
 same_value : (a b : LogValue) (read : Result LogValue Refused) → read ≡ Ok a → read ≡ Ok b → a ≡ b
 same_value a b read e f = cc

@@ -1,8 +1,8 @@
 -- The lines of each session are put behind those before it, and it is counted where it is unlawful.
 use Rattle.std.proofs.Common.{[], arith, refl}
 use Rattle.vp_io.proofs.PutSoFar.{put_all, put_halted, put_more, put_same, put_start}
-use Rattle.vp_run.proofs.SessionLines.{all_left, counted_all, counted_next, counted_none, last_left, session_next}
-use Rattle.vp_run.proofs.sessions.put_sessions.Goals as goal
+use Rattle.vp_sessions.proofs.SessionLines.{all_left, counted_all, counted_next, counted_none, last_left, session_next}
+use Rattle.vp_sessions.proofs.job.put_sessions.Goals as goal
 
 pub loop-place-init : goal.loop-place-init
 loop-place-init g c = record { put = put_same (all_left c.args.games.now c.args.sessions.now.sessions) (put_start _ _); unlawful = counted_none _ _ }

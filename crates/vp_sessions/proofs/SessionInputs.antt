@@ -11,7 +11,7 @@ use Rattle.vp_pay.specs.Spelling.{table_text}
 use Rattle.vp_pay.specs.Table.{IsTable}
 use Rattle.vp_pay.specs.declared.table.PayTable.{PayTable}
 use Rattle.vp_pay.proofs.Tables.{Exact-table}
-use Rattle.vp_run.specs.Sessions.{IsMixed, SessionsInputsAreRead, sessions_input}
+use Rattle.vp_sessions.specs.Sessions.{IsMixed, SessionsInputsAreRead, sessions_input}
 
 abbrev with_rest : PayTable × Feed → Result (PayTable × List ℕ) ℕ
 with_rest read = Ok (read.0, rest_of read.1)

@@ -1,6 +1,6 @@
 -- What `sessions` answers to a pay table and a CSV text.
 use Rattle.std.proofs.Common.{◌≡◌, ◌<◌, ◌≤◌, ◌==◌, ℕ, if◌then◌else◌, Bool, true, false, List, [], ◌∷◌, ◌++◌, length, refl, sym, ap, subst, ◌∙◌, arith, inl, inr, append_assoc, Option, Some, None}
-use Rattle.std.specs.Prelude.{◌↔◌, ◌⊎◌, ◌||◌, Ok, bytes_eq, codes, flat_map, is_some, map}
+use Rattle.std.specs.Prelude.{◌↔◌, ◌⊎◌, ◌||◌, bytes_eq, codes, flat_map, is_some, map}
 use Rattle.std.specs.List.{AllByRecursion}
 use Rattle.std.proofs.lemmas.Bool.Decides.{nat_tests}
 use Rattle.std.proofs.lemmas.Slice.Eq.{bytes_eq-Decides}
@@ -17,34 +17,24 @@ use Rattle.vp_csv.proofs.Closing.{few_games, is_log, log_short}
 use Rattle.vp_csv.proofs.Isolation.{apart}
 use Rattle.vp_replay.specs.Rules.{break_in}
 use Rattle.vp_replay.specs.declared.rule.Broken.{Broken}
-use Rattle.vp_answer.specs.Answers.{Answer, answer_read}
+use Rattle.vp_replay.specs.Replay.{judged_by, log_file, log_read, replay_answer, replay_job}
+use Rattle.vp_replay.proofs.LogFiles.{file_says, file_short}
+use Rattle.vp_answer.specs.Answers.{Answer, answer_of, status_of}
+use Rattle.vp_answer.specs.declared.ending.Ending.TheVariants as ending
 use Rattle.vp_answer.specs.declared.status.Status.{Status}
 use Rattle.vp_answer.specs.declared.status.Status.TheVariants.{Done, Finding}
-use Rattle.vp_run.specs.Answer.{answer, job_answer, judged_log, read_as, sessions_job}
-use Rattle.vp_command.specs.Commands.{command_of}
-use Rattle.vp_run.specs.Replay.{log_file}
-use Rattle.vp_run.specs.Sessions.{Mixed, by_record, judged, log_answer, session_text, sessions_answer, sessions_input, sessions_text, status_by, unlawful}
-use Rattle.vp_run.specs.SessionsTold.{HasLines, IsReplayedAlone, NamesRecord, SessionsAreApart, SessionsAreReplayed, TellsSessions, games_in, lines_of}
-use Rattle.vp_command.specs.declared.command.Command.TheVariants.{Over}
-use Rattle.vp_command.specs.declared.command.Task.TheVariants.{Replay, Sessions}
-use Rattle.vp_run.proofs.NoCommand.{answer_as}
-use Rattle.vp_run.proofs.LogFiles.{file_says, file_short}
-use Rattle.vp_run.proofs.Replays.{replay_as}
-use Rattle.vp_run.proofs.SessionInputs.{inputs_read}
-use Rattle.vp_run.proofs.SessionLines.{last_line, session_lines}
+use Rattle.vp_sessions.specs.Sessions.{Mixed, by_record, ending_by, log_answer, session_text, sessions_said, sessions_text, unlawful}
+use Rattle.vp_sessions.specs.SessionsTell.{HasLines, IsReplayedAlone, NamesRecord, SessionsAreApart, SessionsAreReplayed, TellsSessions, games_in, lines_of, sessions_answer}
+use Rattle.vp_sessions.proofs.SessionInputs.{inputs_read}
+use Rattle.vp_sessions.proofs.SessionLines.{last_line, session_lines}
 
 -- ---- what `replay` answers to a session
 
-judged_as : (table : PayTable) (log : LogValue) (o : Option Broken) → answer_read job_answer (judged_log table log o) ≡ judged table log o
-judged_as table log None = refl
-judged_as table log (Some b) = refl
-
 -- `replay` answers it so
-replayed : (table : PayTable) (log : LogValue) (words : List Word) → IsTable table → IsLog table.deck log → command_of words ≡ Some (Over Replay)
-    → answer words (log_file table log) ≡ log_answer table log
-replayed table log words rules is asks = sym (replay_as words (log_file table log) table log asks (file_says table log rules is)) ∙ judged_as table log (break_in table log)
+replayed : (table : PayTable) (log : LogValue) → IsTable table → IsLog table.deck log → replay_answer (replay_job (log_file table log)) ≡ log_answer table log
+replayed table log rules is = ap (λ r. replay_answer (log_read r)) (file_says table log rules is)
 
-finding_is : (table : PayTable) (log : LogValue) (o : Option Broken) → is_some o ≡ true ↔ ((judged table log o).status ≡ Finding)
+finding_is : (table : PayTable) (log : LogValue) (o : Option Broken) → is_some o ≡ true ↔ ((replay_answer (judged_by table log o)).status ≡ Finding)
 finding_is table log None = (λ e. absurd cc, λ e. absurd cc)
 finding_is table log (Some b) = (λ e. refl, λ e. refl)
 
@@ -52,9 +42,8 @@ alone : (table : PayTable) (s : Session) → IsTable table → IsLog table.deck 
 alone table s rules is short = record {
   log = is;
   short = file_short table s.log rules short;
-  lines = λ words asks. session_lines table s ∙ ap (λ (a : Answer). line_of (codes "session" ∷ s.name ∷ []) ++ a.text) (sym (replayed table s.log words rules is asks));
-  judged = λ words asks.
-      subst (λ (a : Answer). is_some (break_in table s.log) ≡ true ↔ (a.status ≡ Finding)) (sym (replayed table s.log words rules is asks)) (finding_is table s.log (break_in table s.log));
+  lines = session_lines table s ∙ ap (λ (a : Answer). line_of (codes "session" ∷ s.name ∷ []) ++ a.text) (sym (replayed table s.log rules is));
+  judged = subst (λ (a : Answer). is_some (break_in table s.log) ≡ true ↔ (a.status ≡ Finding)) (sym (replayed table s.log rules is)) (finding_is table s.log (break_in table s.log));
 }
 
 all_alone : (table : PayTable) (rs : List Record) (names : List Word) → IsTable table → length rs ≤ 400000 → AllByRecursion (IsReplayedAlone table) (map (session_of table.deck rs) names)
@@ -69,12 +58,8 @@ each_alone table csv rules kept = all_alone table (games_in csv) (names_of (game
 
 -- ---- the answer
 
-sessions_as : (words : List Word) (bytes : List ℕ) (table : PayTable) (csv : List ℕ) → command_of words ≡ Some (Over Sessions) → sessions_input bytes ≡ Ok (table, csv)
-    → sessions_answer (record { table = table; csv = csv }) ≡ answer words bytes
-sessions_as words bytes table csv is says = ap (λ r. answer_read job_answer (read_as sessions_job r)) (sym says) ∙ answer_as words (Some (Over Sessions)) bytes is
-
 abbrev as_status : Bool → Status
-as_status b = if b then Done else Finding
+as_status b = status_of (if b then ending.Done else ending.Finding)
 
 finding_not : (b : Bool) → as_status b ≡ Finding → b ≡ false
 finding_not true e = absurd cc
@@ -96,13 +81,13 @@ zero_is count e = grind (arith, nat_tests)
 none_of : (count : ℕ) → (count == 0) ≡ true → count ≡ 0
 none_of count e = grind (arith, nat_tests)
 
-finding_counts : (count : ℕ) → status_by count ≡ Finding ↔ 0 < count
+finding_counts : (count : ℕ) → status_of (ending_by count) ≡ Finding ↔ 0 < count
 finding_counts count = (λ e. some_of count (finding_not (count == 0) e), λ low. ap as_status (not_zero count low))
 
-done_counts : (count : ℕ) → status_by count ≡ Done ↔ (count ≡ 0)
+done_counts : (count : ℕ) → status_of (ending_by count) ≡ Done ↔ (count ≡ 0)
 done_counts count = (λ e. none_of count (done_so (count == 0) e), λ e. ap as_status (zero_is count e))
 
-by_first : (table : PayTable) (csv : List ℕ) (due : Answer) (o : Option ℕ) → IsTable table → refused_record table.deck csv ≡ o → by_record (record { table = table; csv = csv }) o ≡ due
+by_first : (table : PayTable) (csv : List ℕ) (due : Answer) (o : Option ℕ) → IsTable table → refused_record table.deck csv ≡ o → answer_of (by_record (record { table = table; csv = csv }) o) ≡ due
     → TellsSessions table csv due ⊎ NamesRecord table csv due
 by_first table csv due (Some place) rules first is = inr (record { place = place; first = first; named = sym is })
 by_first table csv due None rules kept is =
@@ -115,15 +100,14 @@ by_first table csv due None rules kept is =
       alone = each_alone table csv rules kept;
     })
 
-answer_is : (m : Mixed) → by_record m (refused_record m.table.deck m.csv) ≡ sessions_answer m
-unfolding sessions_answer
+answer_is : (m : Mixed) → answer_of (by_record m (refused_record m.table.deck m.csv)) ≡ answer_of (sessions_said m)
+unfolding sessions_said
 answer_is m = refl
 
 pub sessions_replayed : SessionsAreReplayed
-sessions_replayed words bytes table csv is says =
+sessions_replayed bytes table csv says =
     let rules = (inputs_read.spelled bytes (table, csv)).0 says in
-    by_first table csv (answer words bytes) (refused_record table.deck csv) rules.table refl
-    (answer_is (record { table = table; csv = csv }) ∙ sessions_as words bytes table csv is says)
+    by_first table csv (sessions_answer table csv) (refused_record table.deck csv) rules.table refl (answer_is (record { table = table; csv = csv }))
 
 -- ---- no session changes another
 
@@ -163,10 +147,10 @@ sessions_hold table csv name among =
     (stands_among (λ n. session_text table (session_of table.deck rs n)) name (names_of rs) among))
 
 pub sessions_apart : SessionsAreApart
-sessions_apart words asks = record {
-  told = λ bytes table csv name says kept among.
+sessions_apart = record {
+  lines = λ bytes table csv name says kept among.
       subst (λ (a : Answer). HasLines a.text (lines_of table csv name))
-      (ap (by_record (record { table = table; csv = csv })) (sym kept) ∙ answer_is (record { table = table; csv = csv }) ∙ sessions_as words bytes table csv asks says)
+      (ap (λ (o : Option ℕ). answer_of (by_record (record { table = table; csv = csv }) o)) (sym kept) ∙ answer_is (record { table = table; csv = csv }))
       (sessions_hold table csv name among);
   same = λ table csv other name records. ap (session_text table) (apart table.deck (games_in csv) (games_in other) name records);
 }

@@ -9,24 +9,22 @@ ghost use Rattle.vp_pay.specs.Table.{IsTable};
 ghost use Rattle.vp_text.specs.Written.{line_of};
 ghost use Rattle.vp_replay.specs.Rules.{break_in};
 ghost use Rattle.vp_csv.specs.Sessions.{session_at};
-ghost use Rattle.vp_answer.specs.Answers.{record_refusal};
+ghost use Rattle.vp_answer.specs.Answers.{record_refusal, status_of};
 ghost use Rattle.vp_answer.specs.Outcome.{Served};
-ghost use Rattle.vp_pay.specs.Reads.{Reads};
-ghost use Rattle.vp_run.specs.Sessions.{log_answer, session_text, sessions_input, sessions_text, status_by, unlawful};
+ghost use Rattle.vp_sessions.specs.Sessions.{ending_by, log_answer, session_text, sessions_text, unlawful};
 
-use crate::replay::{first_break, stop_of};
 use std::alloc::Global;
 use std::marker::Model;
-use vp_answer::{Status, Stop};
+use vp_answer::{HeapWork, Status, Stop};
 use vp_count::table_words;
 use vp_csv::{CsvStop, Sessions};
 use vp_io::{Sink, WriteFault};
 use vp_lines::{Word, put_words};
 use vp_loggram::Log;
 use vp_pay::{Name, PayTable};
-use vp_region::Region;
-use vp_replay::{Broken, Games, put_replay};
-use vp_text::{Lines, Refused};
+use vp_region::Carver;
+use vp_replay::{Broken, Games, first_break, put_replay, stop_of};
+use vp_text::Lines;
 
 /// A pay table, and the CSV text behind it.
 #[derive(Drop)]
@@ -37,7 +35,7 @@ pub struct SessionsJob<'a> {
 
 impl<'a> Model for SessionsJob<'a> {
     ghost use Rattle.vp_pay.specs.Table.{IsTable};
-    ghost use Rattle.vp_run.specs.Sessions.{Mixed};
+    ghost use Rattle.vp_sessions.specs.Sessions.{Mixed};
 
     ghost Value = { Mixed };
 
@@ -47,56 +45,38 @@ impl<'a> Model for SessionsJob<'a> {
 }
 
 impl<'a> SessionsJob<'a> {
-    ghost use Rattle.std.specs.Prelude.{◌≡◌, ◌≤◌, ◌*◌};
+    ghost use Rattle.std.specs.Prelude.{◌≡◌, ◌≤◌, ◌*◌, length};
+    ghost use Rattle.vp_answer.specs.Answers.{answer_of};
     ghost use Rattle.vp_answer.specs.Outcome.{Served};
     ghost use Rattle.vp_count.specs.Table.{first_word};
     ghost use Rattle.vp_csv.specs.Sessions.{Sorted, sessions_of};
-    ghost use Rattle.vp_pay.specs.Table.{IsTable};
-    ghost use Rattle.vp_run.specs.Sessions.{found, sessions_answer};
+    ghost use Rattle.vp_sessions.specs.Sessions.{found, sessions_job};
 
-    pub(crate) fn new(table: PayTable, csv: &'a [u8]) -> SessionsJob<'a>
-        requires { IsTable table }
-        ensures { result ≡ record { table = table; csv = csv.now } }
+    /// What the bytes leave to do: the pay table that they begin with, and all bytes behind the line feed of its last line.
+    pub fn read(bytes: &'a [u8]) -> Result<SessionsJob<'a>, Stop>
+        requires { length bytes.now ≤ 67108864 }
+        ensures { result ≡ sessions_job bytes.now }
     {
-        SessionsJob { table, csv }
-    }
-
-    /// How many words of 64 bits it needs: a table of sums for each bet.
-    #[tactic(auto, using(crate::proofs::ReplayWords::few_words))]
-    pub(crate) fn words(&self) -> usize
-        ensures { result ≡ self.now.table.coins * first_word self.now.table.deck 6 }
-    {
-        self.table.coins as usize * table_words(self.table.deck)
-    }
-
-    /// Writes the lines of the sessions, or the line of the first record that breaks its rule. All records are read
-    /// before anything is put: where there is no memory for the logs, nothing is.
-    #[tactic(auto, unfolding(crate::specs::Sessions::sessions_answer))]
-    pub(crate) fn write<K: Sink>(&self, alloc: Global, region: &mut Region, sink: &mut K) -> Status
-        requires { self.now.table.coins * first_word self.now.table.deck 6 ≤ region.old }
-        ensures served { Served (sessions_answer self.now) (K.told sink.old) (K.told sink.new) result }
-        ensures same { region.new ≡ region.old }
-    {
-        match Sessions::read(alloc, self.csv, self.table.deck) {
-            Ok(sessions) => self.write_sessions(&sessions, region, sink),
-            Err(CsvStop::Record { place }) => write_refused(place, sink),
-            Err(CsvStop::NoMemory) => Status::NoMemory,
-        }
+        let mut lines = Lines::new(bytes);
+        let table = PayTable::read(&mut lines)?;
+        Ok(SessionsJob {
+            table,
+            csv: lines.rest(),
+        })
     }
 
     /// Writes the lines of the sessions.
     fn write_sessions<K: Sink>(
         &self,
         sessions: &Sessions,
-        region: &mut Region,
+        memory: &mut [u64],
         sink: &mut K,
     ) -> Status
-        requires room { self.now.table.coins * first_word self.now.table.deck 6 ≤ region.old }
+        requires room { self.now.table.coins * first_word self.now.table.deck 6 ≤ length memory.old }
         requires sessions { sessions.now ≡ record { deck = self.now.table.deck; sessions = sessions_of self.now.table.deck self.now.csv } }
-        ensures served { Served (found self.now.table (sessions_of self.now.table.deck self.now.csv)) (K.told sink.old) (K.told sink.new) result }
-        ensures same { region.new ≡ region.old }
+        ensures { Served (answer_of (found self.now.table (sessions_of self.now.table.deck self.now.csv))) (K.told sink.old) (K.told sink.new) result }
     {
-        let mut carver = region.carve();
+        let mut carver = Carver::over(memory);
         let words = carver.take_as_it_is(self.words()).unwrap();
         let games = Games::of(&self.table, words);
         match put_sessions(&games, sessions, sink) {
@@ -106,9 +86,34 @@ impl<'a> SessionsJob<'a> {
     }
 }
 
+impl<'a> HeapWork for SessionsJob<'a> {
+    ghost use Rattle.vp_sessions.specs.Sessions.{sessions_due, sessions_some};
+
+    ghost due = { sessions_due };
+
+    ghost some_text = { sessions_some };
+
+    /// A table of sums for each bet.
+    #[tactic(auto, using(vp_replay::proofs::ReplayWords::few_words))]
+    fn words(&self) -> usize {
+        self.table.coins as usize * table_words(self.table.deck)
+    }
+
+    /// Writes the lines of the sessions, or the line of the first record that breaks its rule. All records are read
+    /// before anything is put: where there is no memory for the logs, nothing is.
+    #[tactic(auto, unfolding(crate::specs::Sessions::sessions_said))]
+    fn write<K: Sink>(&self, alloc: Global, memory: &mut [u64], sink: &mut K) -> Status {
+        match Sessions::read(alloc, self.csv, self.table.deck) {
+            Ok(sessions) => self.write_sessions(&sessions, memory, sink),
+            Err(CsvStop::Record { place }) => write_refused(place, sink),
+            Err(CsvStop::NoMemory) => Status::NoMemory,
+        }
+    }
+}
+
 /// An unlawful session is a finding, so many being unlawful.
 fn status_by(count: u32) -> Status
-    ensures { result ≡ status_by count }
+    ensures { result ≡ status_of (ending_by count) }
 {
     if count == 0 {
         Status::Done
@@ -216,15 +221,4 @@ fn put_log<K: Sink>(
         None => put_replay(games, log, sink),
         Some(broken) => stop_of(broken).put(sink),
     }
-}
-
-/// The pay table that the bytes begin with, and all bytes behind the line feed of its last line.
-pub(crate) fn read_sessions_input(bytes: &[u8]) -> Result<(PayTable, &[u8]), Refused>
-    requires { length bytes.now ≤ 67108864 }
-    ensures says { Reads (λ read. (read.0, read.1.now)) result (sessions_input bytes.now) }
-    ensures table { IfOk result (λ read. IsTable read.0) }
-{
-    let mut lines = Lines::new(bytes);
-    let table = PayTable::read(&mut lines)?;
-    Ok((table, lines.rest()))
 }

@@ -1,8 +1,8 @@
 -- The lines of the log are put behind that of the name.
 use Rattle.vp_io.proofs.Puts_laws.{Puts_as, Puts_stopped, Puts_then}
 use Rattle.vp_csv.specs.Sessions.{Session}
-use Rattle.vp_run.proofs.SessionLines.{named_lines}
-use Rattle.vp_run.proofs.sessions.put_session.Goals as goal
+use Rattle.vp_sessions.proofs.SessionLines.{named_lines}
+use Rattle.vp_sessions.proofs.job.put_session.Goals as goal
 
 pub returns-in_err-put_words : goal.returns-in_err-put_words
 returns-in_err-put_words g c =

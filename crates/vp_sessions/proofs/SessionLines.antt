@@ -9,7 +9,7 @@ use Rattle.vp_loggram.specs.Logs.{LogValue}
 use Rattle.vp_csv.specs.Sessions.{Session, Sorted, session_at}
 use Rattle.vp_replay.specs.Rules.{break_in}
 use Rattle.vp_replay.specs.declared.rule.Broken.{Broken}
-use Rattle.vp_run.specs.Sessions.{is_unlawful, log_answer, session_text, sessions_text, unlawful}
+use Rattle.vp_sessions.specs.Sessions.{is_unlawful, log_answer, session_text, sessions_text, unlawful}
 
 -- the two parts of the lines of a session
 pub session_lines : (table : PayTable) (s : Session) → session_text table s ≡ line_of (codes "session" ∷ s.name ∷ []) ++ (log_answer table s.log).text

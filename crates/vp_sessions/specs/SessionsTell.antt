@@ -8,14 +8,14 @@ use Rattle.vp_loggram.specs.Logs.{IsLog}
 use Rattle.vp_csv.specs.Records.{Record, records_in}
 use Rattle.vp_csv.specs.Rules.{knows, names_of, refused_record}
 use Rattle.vp_csv.specs.Sessions.{Session, behind_first, own, session_of, sessions_of}
-use Rattle.vp_answer.specs.Answers.{Answer, record_refusal}
+use Rattle.vp_replay.specs.Replay.{log_file, replay_answer, replay_job}
+use Rattle.vp_answer.specs.Answers.{Answer, answer_of, record_refusal}
 use Rattle.vp_answer.specs.declared.status.Status.TheVariants.{Done, Finding}
-use Rattle.vp_run.specs.Answer.{answer}
-use Rattle.vp_command.specs.Commands.{command_of}
-use Rattle.vp_run.specs.Replay.{log_file}
-use Rattle.vp_run.specs.Sessions.{is_unlawful, session_text, sessions_input, sessions_text, unlawful}
-use Rattle.vp_command.specs.declared.command.Command.TheVariants.{Over}
-use Rattle.vp_command.specs.declared.command.Task.TheVariants.{Replay, Sessions}
+use Rattle.vp_sessions.specs.Sessions.{is_unlawful, session_text, sessions_due, sessions_input, sessions_text, unlawful}
+
+-- what `sessions` answers to a pay table and a CSV text
+abbrev pub sessions_answer : PayTable → List ℕ → Answer
+sessions_answer table csv = answer_of (sessions_due (record { table = table; csv = csv })).said
 
 -- ---- each session is replayed by itself
 
@@ -24,10 +24,8 @@ use Rattle.vp_command.specs.declared.command.Task.TheVariants.{Replay, Sessions}
 pub record IsReplayedAlone (table : PayTable) (s : Session) : Type 0 where
   pub log : IsLog table.deck s.log
   pub short : length (log_file table s.log) ≤ 67108864
-  pub lines : (words : List Word) → command_of words ≡ Some (Over Replay)
-      → session_text table s ≡ line_of (codes "session" ∷ s.name ∷ []) ++ (answer words (log_file table s.log)).text
-  pub judged : (words : List Word) → command_of words ≡ Some (Over Replay)
-      → is_unlawful table s ≡ true ↔ ((answer words (log_file table s.log)).status ≡ Finding)
+  pub lines : session_text table s ≡ line_of (codes "session" ∷ s.name ∷ []) ++ (replay_answer (replay_job (log_file table s.log))).text
+  pub judged : is_unlawful table s ≡ true ↔ ((replay_answer (replay_job (log_file table s.log))).status ≡ Finding)
 
 -- each record keeps its rule, and the answer is the lines of each session, in the order of the records that open them, and then how many
 -- there are and how many are unlawful; it is a finding where any is
@@ -46,9 +44,8 @@ pub record NamesRecord (table : PayTable) (csv : List ℕ) (due : Answer) : Type
 
 -- the answer of `sessions` to each pay table and CSV text that it takes
 abbrev pub SessionsAreReplayed : Type 0
-SessionsAreReplayed = (words : List Word) (bytes : List ℕ) (table : PayTable) (csv : List ℕ)
-    → command_of words ≡ Some (Over Sessions) → sessions_input bytes ≡ Ok (table, csv)
-    → TellsSessions table csv (answer words bytes) ⊎ NamesRecord table csv (answer words bytes)
+SessionsAreReplayed = (bytes : List ℕ) (table : PayTable) (csv : List ℕ) → sessions_input bytes ≡ Ok (table, csv)
+    → TellsSessions table csv (sessions_answer table csv) ⊎ NamesRecord table csv (sessions_answer table csv)
 
 -- ---- no session changes another
 
@@ -68,11 +65,8 @@ lines_of table csv name = session_text table (session_of table.deck (games_in cs
 
 -- Each session that a CSV text names has its lines in the answer. Where it has the same records in the same order in another text, these
 -- lines are the same, whatever the other sessions' records are and wherever they stand.
-pub record AreApart (words : List Word) : Type 0 where
-  pub told : (bytes : List ℕ) (table : PayTable) (csv : List ℕ) (name : Word) → sessions_input bytes ≡ Ok (table, csv) → refused_record table.deck csv ≡ None
-      → knows name (names_of (games_in csv)) ≡ true → HasLines (answer words bytes).text (lines_of table csv name)
+pub record SessionsAreApart : Type 0 where
+  pub lines : (bytes : List ℕ) (table : PayTable) (csv : List ℕ) (name : Word) → sessions_input bytes ≡ Ok (table, csv) → refused_record table.deck csv ≡ None
+      → knows name (names_of (games_in csv)) ≡ true → HasLines (sessions_answer table csv).text (lines_of table csv name)
   pub same : (table : PayTable) (csv other : List ℕ) (name : Word) → own name (games_in csv) ≡ own name (games_in other)
       → lines_of table csv name ≡ lines_of table other name
-
-abbrev pub SessionsAreApart : Type 0
-SessionsAreApart = (words : List Word) → command_of words ≡ Some (Over Sessions) → AreApart words
