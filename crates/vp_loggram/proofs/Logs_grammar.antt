@@ -19,7 +19,7 @@ use Rattle.vp_text.proofs.Spelled.{ok_is, ok_err}
 use Rattle.vp_text.proofs.Streams.{skipped_is}
 use Rattle.vp_loggram.specs.Logs.{IsEvent, IsLog, LogValue}
 use Rattle.vp_loggram.specs.Reading.{event_of}
-use Rattle.vp_loggram.specs.Sections.{start_line, games_at, log_from, log_at, events_in_front, games_skipped, log_read}
+use Rattle.vp_loggram.specs.Sections.{start_line, games_at, log_from, log_at, events_in_front, games_skipped, log_opened, log_read}
 use Rattle.vp_loggram.specs.Spelling.{event_words, log_text}
 use Rattle.vp_loggram.specs.declared.event.Event.{Event}
 use Rattle.vp_loggram.proofs.Games_grammar.{Exact-event, not_end, end_no_event}
@@ -68,9 +68,17 @@ Exact-log n deck =
 abbrev LogRead : Type 0
 LogRead = Result (LogValue × Feed) ℕ
 
+-- a log whose first line is read
+abbrev opened_from : ℕ → ℕ × Feed → LogRead
+opened_from n a = Ok (record { start = a.0; events = front_items (event_of n) a.1.lines }, a.1)
+
+-- the games behind it are skipped
+abbrev skipped_behind : ℕ → LogValue × Feed → LogRead
+skipped_behind n p = skipped (codes "end") (event_of n) p.1 >>= λ rest. Ok (p.0, rest.1)
+
 -- the games behind the start are skipped, and read again from there
 abbrev skipped_from : ℕ → ℕ × Feed → LogRead
-skipped_from n a = skipped (codes "end") (event_of n) a.1 >>= λ rest. Ok (record { start = a.0; events = front_items (event_of n) a.1.lines }, rest.1)
+skipped_from n a = skipped_behind n (record { start = a.0; events = front_items (event_of n) a.1.lines }, a.1)
 
 -- the games behind the start are read
 abbrev games_from : ℕ → ℕ × Feed → Result ((ℕ × List Event) × Feed) ℕ
@@ -81,14 +89,14 @@ seen_log p = Ok (log_from p.0, p.1)
 
 -- a log whose games are skipped and read again is the log that is read
 pub log_read-is : (n : ℕ) (feed : Feed) → log_read n feed ≡ log_at n feed
-unfolding log_at log_read events_in_front games_skipped
+unfolding log_at log_opened log_read events_in_front games_skipped
 log_read-is n feed = by_start (start_line feed)
   where
     by_games : (a : ℕ × Feed) (r : Result (Unit {0} × Feed) ℕ) → skipped (codes "end") (event_of n) a.1 ≡ r → skipped_from n a ≡ (games_from n a >>= seen_log)
     by_games a (Ok p) is = rw (skipped_is (codes "end") (event_of n) (end_no_event n) a.1, is) refl
     by_games a (Err e) is = rw (skipped_is (codes "end") (event_of n) (end_no_event n) a.1, is) refl
 
-    by_start : (r : Result (ℕ × Feed) ℕ) → (r >>= skipped_from n) ≡ ((r >>= games_from n) >>= seen_log)
+    by_start : (r : Result (ℕ × Feed) ℕ) → ((r >>= opened_from n) >>= skipped_behind n) ≡ ((r >>= games_from n) >>= seen_log)
     by_start (Err e) = refl
     by_start (Ok a) = by_games a (skipped (codes "end") (event_of n) a.1) refl
 

@@ -12,4 +12,5 @@ mod writing;
 pub use event::Event;
 pub use events::Events;
 pub use laws::{log_spellings_differ, written_logs_are_read};
-pub use log::Log;
+pub use log::{Log, next_game};
+pub use writing::{append_end, append_start};
