@@ -16,7 +16,7 @@ use Rattle.vp_pay.proofs.ShortTables.{short_table}
 use Rattle.vp_check.specs.Certificates.{Certificate, IsCertificate, IsClassLine}
 use Rattle.vp_check.specs.Spelling.{cert_text, certificate_text, class_words, return_words}
 use Rattle.vp_check.specs.declared.class_line.ClassLine.{ClassLine}
-use Rattle.vp_check.proofs.FewClasses.{few_classes}
+use Rattle.vp_suit.proofs.FewClasses.{few_classes}
 
 -- ---- class lines
 

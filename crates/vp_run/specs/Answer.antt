@@ -8,8 +8,6 @@ use Rattle.vp_answer.specs.Answers.{Answer, answer_read, done}
 use Rattle.vp_answer.specs.Jobs.{Due, DueOf, as_job, job_answer}
 use Rattle.vp_answer.specs.declared.status.Status.TheVariants.{Usage}
 use Rattle.vp_answer.specs.declared.stop.Stop.{Stop}
-use Rattle.vp_answer.specs.declared.stop.Stop.TheVariants.{Record as Rec}
-use Rattle.std.specs.Prelude.{Err}
 use Rattle.vp_answer.specs.declared.work.Job.{Job}
 use Rattle.vp_answer.specs.declared.work.Job.TheVariants.{Lent, Heap}
 use Rattle.vp_command.specs.Commands.{command_of, reads}
@@ -18,8 +16,16 @@ use Rattle.vp_command.specs.declared.command.Command.TheVariants.{Over, Tables}
 use Rattle.vp_command.specs.declared.command.Task.{Task}
 use Rattle.vp_command.specs.declared.command.Task.TheVariants as task
 use Rattle.vp_deal.specs.Deal.{deal_due, deal_job}
+use Rattle.vp_cert.specs.Certify.{certify_due, certify_job}
+use Rattle.vp_audit.specs.Audit.{audit_due, audit_job}
+use Rattle.vp_cross.specs.Cross.{cross_due, cross_job}
 use Rattle.vp_check.specs.CheckJob.{check_job, checked_due}
-use Rattle.vp_run.specs.Stub.{stub_due}
+use Rattle.vp_replay.specs.Replay.{replay_due, replay_job}
+use Rattle.vp_multi.specs.Multi.{multi_due, multi_job}
+use Rattle.vp_hits.specs.HitsJob.{hits_due, hits_job}
+use Rattle.vp_sessions.specs.Sessions.{sessions_due, sessions_job}
+use Rattle.vp_gen.specs.Play.{play_due, play_job}
+use Rattle.vp_audit.specs.Compile.{compile_due, compile_job}
 use Rattle.vp_run.specs.declared.job.HeapJob.{HeapJob}
 use Rattle.vp_run.specs.declared.job.HeapJob.TheVariants as heap
 use Rattle.vp_run.specs.declared.job.LentJob.{LentJob}
@@ -30,17 +36,33 @@ use Rattle.vp_run.specs.declared.job.LentJob.TheVariants as lent
 -- in lent words alone: how many, and the text
 abbrev pub lent_due : LentJob → Due
 lent_due (lent.Deal job) = deal_due job
+lent_due (lent.Certify job) = certify_due job
+lent_due (lent.Audit job) = audit_due job
+lent_due (lent.Cross job) = cross_due job
 lent_due (lent.Checked job) = checked_due job
+lent_due (lent.Replay job) = replay_due job
+lent_due (lent.Multi job) = multi_due job
+lent_due (lent.Hits job) = hits_due job
 
 -- with memory of its own beside them: how many words, how it ends, and the text
 abbrev pub heap_due : HeapJob → DueOf
-heap_due (heap.Stub job) = stub_due job
+heap_due (heap.Sessions job) = sessions_due job
+heap_due (heap.Play job) = play_due job
+heap_due (heap.Compile job) = compile_due job
 
 -- what a task leaves to do, or where its input is stopped at
 abbrev pub job_of : Task → List ℕ → Result (Job LentJob HeapJob) Stop
 job_of (task.Deal coin) bytes = as_job (λ job. Lent (lent.Deal job)) (deal_job coin bytes)
+job_of (task.Certify coin) bytes = as_job (λ job. Lent (lent.Certify job)) (certify_job coin bytes)
+job_of (task.Audit coin) bytes = as_job (λ job. Lent (lent.Audit job)) (audit_job coin bytes)
+job_of (task.Cross coin) bytes = as_job (λ job. Lent (lent.Cross job)) (cross_job coin bytes)
 job_of (task.Check from count) bytes = as_job (λ job. Lent (lent.Checked job)) (check_job from count bytes)
-job_of task bytes = Err (Rec 0)
+job_of task.Replay bytes = as_job (λ job. Lent (lent.Replay job)) (replay_job bytes)
+job_of (task.Multi coin hands) bytes = as_job (λ job. Lent (lent.Multi job)) (multi_job coin hands bytes)
+job_of (task.Hits coin) bytes = as_job (λ job. Lent (lent.Hits job)) (hits_job coin bytes)
+job_of task.Sessions bytes = as_job (λ job. Heap (heap.Sessions job)) (sessions_job bytes)
+job_of (task.Play coin seed games) bytes = as_job (λ job. Heap (heap.Play job)) (play_job coin seed games bytes)
+job_of (task.Compile coin millionths) bytes = as_job (λ job. Heap (heap.Compile job)) (compile_job coin millionths bytes)
 
 -- ---- words that need no input
 
