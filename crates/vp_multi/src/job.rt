@@ -112,7 +112,7 @@ fn put_moments<K: Sink>(sums: MomentSums, n: u8, sink: &mut K) -> Result<(), Wri
     ensures { Puts (K.told sink.old) (K.told sink.new) result
         (written (moment_lines sums (choose n 5 * common n) (common n))) }
 {
-    put_fractions(sums, return_denominator(n, 1), common(n), sink)
+    put_fractions(sums, mean_denominator(n), common(n), sink)
 }
 
 /// The same, over the number of deals times the common denominator, and that.
@@ -134,4 +134,13 @@ fn put_fractions<K: Sink>(
         Word::Fraction(sums.between, u128::from(all) * u128::from(all)),
     ];
     put_lines(&[&mean, &second, &within, &between], sink)
+}
+
+/// What the mean stands over: the number of deals times the common denominator.
+#[tactic(auto, unfolding(vp_draws::specs::Draws::return_denominator))]
+fn mean_denominator(n: u8) -> u64
+    requires { IsDeck n }
+    ensures { result ≡ choose n 5 * common n }
+{
+    return_denominator(n, 1)
 }
