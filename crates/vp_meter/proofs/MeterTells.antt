@@ -1,43 +1,38 @@
--- The line with a name, and what the answer of `meter` tells.
-use Rattle.std.proofs.Common.{◌≡◌, ◌⊎◌, ℕ, ◌<◌, ◌≤◌, Bool, true, false, List, [], length, map, get_or, refl, sym, ap, ◌∙◌, Option, Some, None}
-use Rattle.std.specs.Prelude.{Ok, bytes_eq, is_some, slice_index_or, ◌&&◌, if◌then◌else◌}
+-- The line with a name, and what the text of `meter` tells.
+use Rattle.std.proofs.Common.{◌≡◌, ℕ, ◌<◌, true, [], List, length, get_or, refl, ap, ◌∙◌, Option, Some, None}
+use Rattle.std.specs.Prelude.{bytes_eq, is_some}
 use Rattle.std.proofs.lemmas.List.{get_or-map}
 use Rattle.std.proofs.lemmas.List.Quantifiers.{position-Some}
 use Rattle.std.proofs.lemmas.Slice.Eq.{bytes_eq-Decides}
-use Rattle.vp_text.specs.Lines.{Word}
 use Rattle.vp_text.specs.Written.{written}
+use Rattle.vp_text.proofs.Pieces.{both_true}
 use Rattle.vp_pay.specs.Bets.{IsBet}
+use Rattle.vp_pay.specs.Inputs.{has_bet}
+use Rattle.vp_pay.specs.LineNames.{name_at, place_of}
 use Rattle.vp_pay.specs.declared.pattern.Pattern.TheVariants.{Royal}
 use Rattle.vp_pay.specs.declared.pattern.Qualifier.TheVariants.{Either}
 use Rattle.vp_pay.specs.declared.table.PayLine.{PayLine}
 use Rattle.vp_pay.specs.declared.table.PayTable.{PayTable}
-use Rattle.vp_meter.proofs.Exact.{meter_tells}
+use Rattle.vp_pay.proofs.FittingBets.{bet_fits}
+use Rattle.vp_pay.proofs.Inputs.{tables_read}
+use Rattle.vp_meter.specs.Meter.{MeterInputsAreRead, Ranged, has_line, metering_of}
+use Rattle.vp_meter.specs.MeterTells.{MetersAreTold}
 use Rattle.vp_meter.specs.Metered.{IsMetering, Metering}
 use Rattle.vp_meter.specs.Spelling.{meter_text}
-use Rattle.vp_answer.specs.Answers.{Answer, answer_read, done}
-use Rattle.vp_pay.proofs.Inputs.{tables_read}
-use Rattle.vp_run.specs.Answer.{answer, job_answer, meter_job, read_as}
-use Rattle.vp_command.specs.Commands.{command_of}
-use Rattle.vp_run.specs.Deal.{has_bet}
-use Rattle.vp_run.specs.EveryDeal.{MetersAreTold}
-use Rattle.vp_run.specs.Meter.{Ranged, has_line, line_place, meter_input, metering_of}
-use Rattle.vp_command.specs.declared.command.Command.TheVariants.{Over}
-use Rattle.vp_command.specs.declared.command.Task.TheVariants.{Meter}
-use Rattle.vp_command.proofs.CommandWords.{in_range}
-use Rattle.vp_run.proofs.FittingBets.{bet_fits}
-use Rattle.vp_run.proofs.NoCommand.{answer_as}
+use Rattle.vp_meter.proofs.Exact.{meter_tells}
+use Rattle.vp_meter.proofs.PieceTells.{pieces_tell}
 
 -- ---- the line with a name
 
 -- its place is one of the table's, and the line there has the name
-pub record OnLine (name : List ℕ) (table : PayTable) (place : ℕ) : Type 0 where
+record OnLine (name : List ℕ) (table : PayTable) (place : ℕ) : Type 0 where
   pub inside : place < length table.lines.items
-  pub named : slice_index_or (map (λ (line : PayLine). line.name) table.lines.items) place [] ≡ name
+  pub named : name_at table place ≡ name
 
 nothing : PayLine
 nothing = record { name = []; pattern = Royal; qualifier = Either; pays = [] }
 
-pub on_line : (name : List ℕ) (table : PayTable) (place : ℕ) → line_place name table ≡ Some place → OnLine name table place
+on_line : (name : List ℕ) (table : PayTable) (place : ℕ) → place_of table name ≡ Some place → OnLine name table place
 on_line name table place is =
     let found = position-Some (λ (line : PayLine). bytes_eq line.name name) table.lines.items place nothing is in
     record {
@@ -48,39 +43,32 @@ on_line name table place is =
     }
 
 -- a table that has the bet, and the line at the place of the name
-pub metering_is : (coin : ℕ) (name : List ℕ) (table : PayTable) (place : ℕ) → IsBet table coin → line_place name table ≡ Some place → IsMetering (metering_of coin name table)
+metering_is : (coin : ℕ) (name : List ℕ) (table : PayTable) (place : ℕ) → IsBet table coin → place_of table name ≡ Some place → IsMetering (metering_of coin name table)
 metering_is coin name table place bet is = record { bet = bet; inside = rw is ((on_line name table place is).inside) }
 
--- ---- the answer
+-- ---- what is told
 
-both : (a b : Bool) → (a && b) ≡ true → (a ≡ true) × (b ≡ true)
-both true b h = (refl, h)
-both false b h = absurd cc
+pub inputs_read : MeterInputsAreRead
+inputs_read coin name = tables_read (has_line coin name)
 
 some_place : (place : Option ℕ) → is_some place ≡ true → (found : ℕ) × (place ≡ Some found)
 some_place (Some found) h = (found, refl)
 some_place None h = absurd cc
 
--- the answer of `meter` to what its input says
-meter_as : (words : List Word) (coin lo hi : ℕ) (name bytes : List ℕ) (table : PayTable) → command_of words ≡ Some (Over (Meter coin name lo hi)) → meter_input coin name bytes ≡ Ok (table, tt)
-    → done (written (meter_text (metering_of coin name table) lo hi)) ≡ answer words bytes
-meter_as words coin lo hi name bytes table is says =
-    ap (λ r. answer_read job_answer (read_as (meter_job coin name lo hi) r)) (sym says) ∙ answer_as words (Some (Over (Meter coin name lo hi))) bytes is
-
 pub meters_told : MetersAreTold
-meters_told words coin lo hi name bytes table is says =
-    let due = meter_as words coin lo hi name bytes table is says in
+meters_told coin lo hi name bytes table some says =
     let found = ((tables_read (has_line coin name)).spelled bytes (table, tt)).0 says in
-    let parts = both (has_bet coin table) (is_some (line_place name table)) found.1 in
-    let place = some_place (line_place name table) parts.1 in
-    let bet : IsBet table coin = record { rules = found.0; some = (in_range words (Meter coin name lo hi) is).some; within = bet_fits coin table.coins parts.0 } in
+    let parts = both_true (has_bet coin table) (is_some (place_of table name)) found.1 in
+    let place = some_place (place_of table name) parts.1 in
+    let bet : IsBet table coin = record { rules = found.0; some = some; within = bet_fits coin table.coins parts.0 } in
     let metering = metering_is coin name table place.0 bet place.1 in
     record {
-      status = ap (λ (a : Answer). a.status) (sym due);
-      text = ap (λ (a : Answer). a.text) (sym due);
+      status = refl;
+      text = refl;
       metering = metering;
       named = rw place.1 ((on_line name table place.0 place.1).named);
       tells = meter_tells (metering_of coin name table) lo hi metering;
+      pieces_tell = pieces_tell (metering_of coin name table) lo hi metering;
     }
 
 -- ---- what a job puts
