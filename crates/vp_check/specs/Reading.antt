@@ -6,7 +6,7 @@ use Rattle.vp_card.specs.Reading.{card_of}
 use Rattle.vp_text.specs.Lines.{Word}
 use Rattle.vp_text.specs.Reading.{next_is, one_line, both, rows, mapped}
 use Rattle.vp_text.specs.Numbers.{number_of, number_within}
-use Rattle.vp_text.specs.Pieces.{Piece, ◌>>=◌, one_word, so_many, key_word, ended, keyed}
+use Rattle.vp_text.specs.Pieces.{Piece, ◌>>=◌, one_word, so_many, key_word}
 use Rattle.vp_text.specs.Streams.{passing}
 use Rattle.vp_text.specs.Sequences.{◌>>◌, after, all_of}
 use Rattle.vp_text.specs.ExactReaders.{Reader}
@@ -69,9 +69,7 @@ class_lines n = rows (class_or_return n)
 
 -- `end` alone
 abbrev pub end_of : List Word → Option (Unit {0})
-end_of words = do
-  key ← key_word (codes "end") words
-  ended tt key.1
+end_of words = all_of (key_word (codes "end")) words
 
 -- the last line
 abbrev pub end_line : Reader (Unit {0})

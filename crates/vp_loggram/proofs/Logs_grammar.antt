@@ -1,21 +1,19 @@
 -- Logs are read exactly: each from its spelling, and from no other lines.
 use Rattle.std.proofs.Common.{◌≡◌, ℕ, ◌≤◌, List, [], ◌∷◌, ◌++◌, refl, sym, ap, ◌∙◌, arith}
-use Rattle.std.specs.Prelude.{Result, Ok, Err, IfOk, IfErr, codes}
+use Rattle.std.specs.Prelude.{Result, Ok, Err, codes}
 use Rattle.std.specs.Fmt.{decimal}
 use Rattle.std.specs.List.{AllByRecursion}
 use Rattle.vp_card.specs.Cards.{IsDeck}
 use Rattle.vp_text.specs.Lines.{Feed}
-use Rattle.vp_text.specs.Sections.{Starts, Refuses}
 use Rattle.vp_text.specs.ExactReaders.{Exact, Keeps, AreClosed, closed_text}
 use Rattle.vp_text.specs.Reading.{◌>>=◌, both, Gives}
 use Rattle.vp_text.specs.Streams.{always, any_behind, front_items, skipped}
 use Rattle.vp_text.specs.declared.refused.Refused.{Refused}
 use Rattle.vp_text.proofs.Joined.{Exact-both, Exact-mapped}
 use Rattle.vp_text.proofs.Numbers.{number_within_exact}
-use Rattle.vp_text.proofs.Pieces.{Exact-keyed}
+use Rattle.vp_text.proofs.Sequences.{Exact-keyed}
 use Rattle.vp_text.proofs.Rows.{Exact-closed}
 use Rattle.vp_text.proofs.Sections.{Exact-line}
-use Rattle.vp_text.proofs.Spelled.{ok_is, ok_err}
 use Rattle.vp_text.proofs.Streams.{skipped_is}
 use Rattle.vp_loggram.specs.Logs.{IsEvent, IsLog, LogValue}
 use Rattle.vp_loggram.specs.Reading.{event_of}
@@ -103,25 +101,3 @@ log_read-is n feed = by_start (start_line feed)
 pub gives_log : (n : ℕ) (result : Result LogValue Refused) (before left : Feed) → Gives (λ (log : LogValue). log) result left (log_read n before) → Gives (λ (log : LogValue). log) result left (log_at n before)
 gives_log n (Ok log) before left gives = sym (log_read-is n before) ∙ gives
 gives_log n (Err e) before left gives = sym (log_read-is n before) ∙ gives
-
--- ---- what a reader of logs answers
-
-pub found_log : (n : ℕ) → IsDeck n → (result : Result LogValue Refused) (before left : Feed) → Gives (λ (log : LogValue). log) result left (log_at n before)
-    → IfOk result (λ log. IsLog n log × Starts log_text before log left)
-found_log n deck (Ok log) before left gives = (Exact-log n deck).takes before left log gives
-found_log n deck (Err e) before left gives = tt
-
-pub refused_log : (n : ℕ) → IsDeck n → (result : Result LogValue Refused) (before left : Feed) → Gives (λ (log : LogValue). log) result left (log_at n before)
-    → IfErr result (λ e. Refuses log_text (IsLog n) before e.line)
-refused_log n deck (Ok log) before left gives = tt
-refused_log n deck (Err e) before left gives = (Exact-log n deck).stops before e.line gives
-
-pub only_log : (n : ℕ) → IsDeck n → (result : Result LogValue Refused) (before left : Feed) → Gives (λ (log : LogValue). log) result left (log_at n before)
-    → (log : LogValue) (rest : Feed) → IsLog n log → Starts log_text before log rest → (result ≡ Ok log) × (left ≡ rest)
-only_log n deck (Ok other) before left gives log rest is starts =
-    let p : LogValue × Feed = (other, left)
-    in let q : LogValue × Feed = (log, rest)
-    in let same : p ≡ q = ok_is p q (sym gives ∙ (Exact-log n deck).again before rest log is starts)
-    in (ap (λ (r : LogValue × Feed). Ok r.0) same, ap (λ (r : LogValue × Feed). r.1) same)
-only_log n deck (Err e) before left gives log rest is starts =
-    absurd (ok_err (log_at n before) (log, rest) e.line ((Exact-log n deck).again before rest log is starts) gives)

@@ -2,7 +2,7 @@
 use Rattle.std.specs.Prelude.{◌≡◌, ℕ, ◌<◌, List, [], ◌∷◌, length, Option, Some, None, Result, Ok, Err, codes}
 use Rattle.vp_text.specs.Lines.{Feed, WordLine}
 use Rattle.vp_text.specs.Numbers.{number_within}
-use Rattle.vp_text.specs.Pieces.{keyed}
+use Rattle.vp_text.specs.Sequences.{keyed}
 use Rattle.vp_text.specs.Reading.{◌>>=◌, one_line, both, closed, mapped}
 use Rattle.vp_text.specs.ExactReaders.{Reader}
 use Rattle.vp_text.specs.Streams.{always, any_behind, front_items, skipped}

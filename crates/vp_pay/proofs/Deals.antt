@@ -15,7 +15,8 @@ use Rattle.vp_text.specs.Sections.{Starts, Refuses}
 use Rattle.vp_text.specs.ExactReaders.{Exact, ExactText}
 use Rattle.vp_text.specs.declared.refused.Refused.{Refused}
 use Rattle.vp_text.proofs.Sections.{Exact-line}
-use Rattle.vp_text.proofs.Spelled.{ok_is, ok_err, bind_ok, bind_err}
+use Rattle.vp_text.proofs.Answered.{only_read}
+use Rattle.vp_text.proofs.Spelled.{ok_is, bind_ok, bind_err}
 use Rattle.vp_pay.specs.Deal.{AreDealtCards, AreFiveCards, IsCard, IsDealt, TakesExactly}
 use Rattle.vp_text.specs.Pieces.{AreMany, ExactPiece, Piece, Takes, one_word, so_many}
 use Rattle.vp_pay.specs.Spelling.{deal_text}
@@ -149,13 +150,4 @@ pub only_deal : (n : ℕ) (result : Result (List ℕ) Refused) (before left : Fe
     → (cards : List ℕ) (rest : Feed) → AreDealtCards n cards → Starts deal_text before cards rest → (result ≡ Ok (in_order cards)) × (left ≡ rest)
 only_deal n result before left deck gives cards rest is starts =
     let read : deal_at n before ≡ Ok (cards, rest) = (Exact-deal n deck).again before rest cards is starts
-    in let hand : hand_at n before ≡ Ok (in_order cards, rest) = hand_at-is n before ∙ (rw read)
-    in same result gives hand
-  where
-    same : (r : Result (List ℕ) Refused) → Gives (λ (h : List ℕ). h) r left (hand_at n before) → hand_at n before ≡ Ok (in_order cards, rest) → (r ≡ Ok (in_order cards)) × (left ≡ rest)
-    same (Ok h) g hand =
-        let p : List ℕ × Feed = (h, left)
-        in let q : List ℕ × Feed = (in_order cards, rest)
-        in let e : p ≡ q = ok_is p q (sym g ∙ hand)
-        in (ap (λ (x : List ℕ × Feed). Ok x.0) e, ap (λ (x : List ℕ × Feed). x.1) e)
-    same (Err d) g hand = absurd (ok_err (hand_at n before) (in_order cards, rest) d.line hand g)
+    in only_read result left (hand_at n before) gives (in_order cards) rest (hand_at-is n before ∙ (rw read))

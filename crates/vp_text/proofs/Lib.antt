@@ -1,6 +1,7 @@
 pub mod Cuts
 pub mod Places
 pub mod Spelled
+pub mod Answered
 pub mod Sections
 pub mod Joined
 pub mod Rows

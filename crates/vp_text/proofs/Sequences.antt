@@ -6,8 +6,8 @@ use Rattle.vp_text.specs.Lines.{Word}
 use Rattle.vp_text.specs.Pieces.{Piece, ExactPiece}
 use Rattle.vp_text.specs.ExactReaders.{ExactText}
 use Rattle.vp_text.specs.Streams.{passing}
-use Rattle.vp_text.specs.Sequences.{◌>>◌, after, all_of}
-use Rattle.vp_text.proofs.Pieces.{bound, at_end, chosen, no_value, so, took, same_bytes, Exact-key_word}
+use Rattle.vp_text.specs.Sequences.{◌>>◌, after, all_of, keyed}
+use Rattle.vp_text.proofs.Pieces.{bound, at_end, chosen, no_value, so, took, same_bytes, Exact-key_word, Exact-one_word}
 
 -- two pieces, of which the first may stand before the second
 pub Exact-before : {A B : Type 0} {spell : A → List Word} {spell2 : B → List Word} {Valid : A → Type 0} {Valid2 : B → Type 0} {May May2 : List Word → Bool} {first : Piece A} {second : Piece B}
@@ -73,6 +73,11 @@ Exact-all_of {A} {spell} {Valid} {May} {piece} exact may = record {
       let end = at_end _ _ _ v.then in
       let t = took exact words v.value v.first in
       subst (P words) end.1 (t.valid, sym (t.front ∙ ap (λ (ws : List Word). spell v.value.0 ++ ws) end.0 ∙ append-nil (spell v.value.0)))
+
+-- a line of two words
+pub Exact-keyed : {A : Type 0} (key : Word) {word : A → Word} {Valid : A → Type 0} {read : Word → Option A} → ExactText word Valid read
+    → ExactText (λ a. key ∷ word a ∷ []) Valid (keyed key read)
+Exact-keyed key exact = Exact-all_of (Exact-after key (Exact-one_word exact)) refl
 
 -- a value that is made of another one
 pub Exact-made : {A B : Type 0} {say : A → List Word} {Valid : A → Type 0} {read : List Word → Option A}

@@ -3,7 +3,7 @@
 -- Each part is exact where its own parts are (Exact-after, Exact-then, Exact-all_of), and so the whole line is: see ExactText.
 use Rattle.std.specs.Prelude.{List, Option, Some}
 use Rattle.vp_text.specs.Lines.{Word}
-use Rattle.vp_text.specs.Pieces.{Piece, ◌>>=◌, key_word, ended}
+use Rattle.vp_text.specs.Pieces.{Piece, ◌>>=◌, one_word, key_word, ended}
 
 infixr 6 ◌>>◌
 -- a piece, and then another
@@ -24,3 +24,7 @@ abbrev pub all_of : {A : Type 0} → Piece A → List Word → Option A
 all_of piece words = do
   value ← piece words
   ended value.0 value.1
+
+-- a line of two words: this word, and a value's
+abbrev pub keyed : {A : Type 0} → Word → (Word → Option A) → List Word → Option A
+keyed key read = all_of (after key (one_word read))
