@@ -1,2 +1,3 @@
 pub mod NoCommand
 pub mod GivenWords
+pub mod Laws

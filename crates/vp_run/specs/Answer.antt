@@ -21,6 +21,7 @@ use Rattle.vp_audit.specs.Audit.{audit_due, audit_job}
 use Rattle.vp_cross.specs.Cross.{cross_due, cross_job}
 use Rattle.vp_check.specs.CheckJob.{check_job, checked_due}
 use Rattle.vp_replay.specs.Replay.{replay_due, replay_job}
+use Rattle.vp_meter.specs.Meter.{meter_due, meter_job}
 use Rattle.vp_multi.specs.Multi.{multi_due, multi_job}
 use Rattle.vp_hits.specs.HitsJob.{hits_due, hits_job}
 use Rattle.vp_sessions.specs.Sessions.{sessions_due, sessions_job}
@@ -41,6 +42,7 @@ lent_due (lent.Audit job) = audit_due job
 lent_due (lent.Cross job) = cross_due job
 lent_due (lent.Checked job) = checked_due job
 lent_due (lent.Replay job) = replay_due job
+lent_due (lent.Meter job) = meter_due job
 lent_due (lent.Multi job) = multi_due job
 lent_due (lent.Hits job) = hits_due job
 
@@ -58,6 +60,7 @@ job_of (task.Audit coin) bytes = as_job (λ job. Lent (lent.Audit job)) (audit_j
 job_of (task.Cross coin) bytes = as_job (λ job. Lent (lent.Cross job)) (cross_job coin bytes)
 job_of (task.Check from count) bytes = as_job (λ job. Lent (lent.Checked job)) (check_job from count bytes)
 job_of task.Replay bytes = as_job (λ job. Lent (lent.Replay job)) (replay_job bytes)
+job_of (task.Meter coin name lo hi) bytes = as_job (λ job. Lent (lent.Meter job)) (meter_job coin name lo hi bytes)
 job_of (task.Multi coin hands) bytes = as_job (λ job. Lent (lent.Multi job)) (multi_job coin hands bytes)
 job_of (task.Hits coin) bytes = as_job (λ job. Lent (lent.Hits job)) (hits_job coin bytes)
 job_of task.Sessions bytes = as_job (λ job. Heap (heap.Sessions job)) (sessions_job bytes)

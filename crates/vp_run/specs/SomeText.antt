@@ -7,6 +7,7 @@ use Rattle.vp_audit.specs.Audit.{audit_some}
 use Rattle.vp_cross.specs.Cross.{cross_some}
 use Rattle.vp_check.specs.CheckJob.{checked_some}
 use Rattle.vp_replay.specs.Replay.{replay_some}
+use Rattle.vp_meter.specs.Meter.{meter_some}
 use Rattle.vp_multi.specs.Multi.{multi_some}
 use Rattle.vp_hits.specs.HitsJob.{hits_some}
 use Rattle.vp_sessions.specs.Sessions.{sessions_some}
@@ -24,6 +25,7 @@ lent_some (lent.Audit job) = audit_some job
 lent_some (lent.Cross job) = cross_some job
 lent_some (lent.Checked job) = checked_some job
 lent_some (lent.Replay job) = replay_some job
+lent_some (lent.Meter job) = meter_some job
 lent_some (lent.Multi job) = multi_some job
 lent_some (lent.Hits job) = hits_some job
 

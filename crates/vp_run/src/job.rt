@@ -15,6 +15,7 @@ use vp_deal::DealJob;
 use vp_gen::PlayJob;
 use vp_hits::HitsJob;
 use vp_io::{Sink, WriteFault};
+use vp_meter::MeterJob;
 use vp_multi::MultiJob;
 use vp_replay::ReplayJob;
 use vp_sessions::SessionsJob;
@@ -28,6 +29,7 @@ pub enum LentJob<'a> {
     Cross(CrossJob),
     Checked(Checked),
     Replay(ReplayJob<'a>),
+    Meter(MeterJob),
     Multi(MultiJob),
     Hits(HitsJob),
 }
@@ -56,6 +58,7 @@ impl<'a> Work for LentJob<'a> {
             LentJob::Cross(job) => job.words(),
             LentJob::Checked(job) => job.words(),
             LentJob::Replay(job) => job.words(),
+            LentJob::Meter(job) => job.words(),
             LentJob::Multi(job) => job.words(),
             LentJob::Hits(job) => job.words(),
         }
@@ -69,6 +72,7 @@ impl<'a> Work for LentJob<'a> {
             LentJob::Cross(job) => job.put(memory, sink),
             LentJob::Checked(job) => job.put(memory, sink),
             LentJob::Replay(job) => job.put(memory, sink),
+            LentJob::Meter(job) => job.put(memory, sink),
             LentJob::Multi(job) => job.put(memory, sink),
             LentJob::Hits(job) => job.put(memory, sink),
         }
@@ -113,6 +117,7 @@ pub(crate) fn job_of(task: Task, bytes: &[u8]) -> Result<Job<LentJob<'_>, HeapJo
         Task::Cross(coin) => Job::Lent(LentJob::Cross(CrossJob::read(coin, bytes)?)),
         Task::Check { from, count } => Job::Lent(LentJob::Checked(check_job(from, count, bytes)?)),
         Task::Replay => Job::Lent(LentJob::Replay(ReplayJob::read(bytes)?)),
+        Task::Meter { coin, line, lo, hi } => Job::Lent(LentJob::Meter(MeterJob::read(coin, &line, lo, hi, bytes)?)),
         Task::Multi { coin, hands } => Job::Lent(LentJob::Multi(MultiJob::read(coin, hands, bytes)?)),
         Task::Hits(coin) => Job::Lent(LentJob::Hits(HitsJob::read(coin, bytes)?)),
         Task::Sessions => Job::Heap(HeapJob::Sessions(SessionsJob::read(bytes)?)),
