@@ -124,11 +124,11 @@ pub compiles_audited : CompiledListsAreAudited
 compiles_audited coin millionths = told (task.Compile coin millionths) (compile_input coin) (λ read. Heap (heap.Compile (record { table = read.0; coin = coin; millionths = millionths; pool = read.1 }))) _
     (compile_left coin millionths)
     (λ bytes read range says.
-        let is = lists_audited coin millionths bytes read.0 read.1 range.some_coin range.most says in
-        record {
-          audited = is;
-          answered = λ words file same asks. sym (due words (task.Audit coin) file _ asks (ap (as_job (λ job. Lent (lent.Audit job))) (ap (audit_job coin) same ∙ is.job))) ∙ is.answered;
-        })
+    let is = lists_audited coin millionths bytes read.0 read.1 range.some_coin range.most says in
+    record {
+      audited = is;
+      answered = λ words file same asks. sym (due words (task.Audit coin) file _ asks (ap (as_job (λ job. Lent (lent.Audit job))) (ap (audit_job coin) same ∙ is.job))) ∙ is.answered;
+    })
 
 -- ---- logs
 
@@ -148,21 +148,24 @@ pub plays : PlaysAreReplayed
 plays coin seed games = told (task.Play coin seed games) (play_input coin) (λ read. Heap (heap.Play (record { table = read.0; coin = coin; seed = seed; games = games }))) _
     (λ bytes read says. ap (λ r. as_job (λ job. Heap (heap.Play job)) (read_as (λ read. record { table = read.0; coin = coin; seed = seed; games = games }) r)) says)
     (λ bytes read range says.
-        let is = plays_replayed coin seed games bytes read.0 range.some_coin range.some range.most says in
-        record {
-          played = is;
-          replayed = λ words asks. sym (due words task.Replay _ _ asks (ap (as_job (λ job. Lent (lent.Replay job))) is.replayed.job)) ∙ ap done is.replayed.text;
-        })
+    let is = plays_replayed coin seed games bytes read.0 range.some_coin range.some range.most says in
+    record {
+      played = is;
+      replayed = λ words asks. sym (due words task.Replay _ _ asks (ap (as_job (λ job. Lent (lent.Replay job))) is.replayed.job)) ∙ ap done is.replayed.text;
+    })
 
 answered_alone : (table : PayTable) (sessions : List Session) → AllByRecursion (IsReplayedAlone table) sessions → AllByRecursion (IsAnsweredAlone table) sessions
 answered_alone table [] all = tt
-answered_alone table (s ∷ more) all = (record {
-  lines = λ words asks. all.0.lines ∙ ap (λ (a : Answer). line_of (codes "session" ∷ s.name ∷ []) ++ a.text) (replayed words (log_file table s.log) asks);
-  judged = λ words asks. (
-    λ is. ap (λ (a : Answer). a.status) (sym (replayed words (log_file table s.log) asks)) ∙ all.0.judged.0 is,
-    λ finding. all.0.judged.1 (ap (λ (a : Answer). a.status) (replayed words (log_file table s.log) asks) ∙ finding),
-  );
-}, answered_alone table more all.1)
+answered_alone table (s ∷ more) all = (
+  record {
+    lines = λ words asks. all.0.lines ∙ ap (λ (a : Answer). line_of (codes "session" ∷ s.name ∷ []) ++ a.text) (replayed words (log_file table s.log) asks);
+    judged = λ words asks. (
+      λ is. ap (λ (a : Answer). a.status) (sym (replayed words (log_file table s.log) asks)) ∙ all.0.judged.0 is,
+      λ finding. all.0.judged.1 (ap (λ (a : Answer). a.status) (replayed words (log_file table s.log) asks) ∙ finding),
+    );
+  },
+  answered_alone table more all.1,
+)
 
 -- what is left to do of a CSV text
 sessions_left : (bytes : List ℕ) (read : PayTable × List ℕ) → sessions_input bytes ≡ Ok read → job_of task.Sessions bytes ≡ Ok (Heap (heap.Sessions (record { table = read.0; csv = read.1 })))
@@ -219,10 +222,10 @@ pub certificates_well : CertificatesAreChecked
 certificates_well coin = told (task.Certify coin) (certify_input coin) (λ read. Lent (lent.Certify (record { table = read.0; coin = coin }))) _
     (λ bytes read says. ap (λ r. as_job (λ job. Lent (lent.Certify job)) (read_as (λ read. record { table = read.0; coin = coin }) r)) says)
     (λ bytes read range says.
-        let is = certificates_checked coin bytes read.0 range.0 says in
-        record {
-          short = is.short;
-          well = λ words from count asks.
-              let checked = is.well from count in
-              ap (λ (a : Answer). a.status) (sym (due words (task.Check from count) _ _ asks (ap (λ r. as_job (λ job. Lent (lent.Checked job)) (check_read r)) checked.1)));
-        })
+    let is = certificates_checked coin bytes read.0 range.0 says in
+    record {
+      short = is.short;
+      well = λ words from count asks.
+          let checked = is.well from count in
+          ap (λ (a : Answer). a.status) (sym (due words (task.Check from count) _ _ asks (ap (λ r. as_job (λ job. Lent (lent.Checked job)) (check_read r)) checked.1)));
+    })

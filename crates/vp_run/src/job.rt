@@ -117,11 +117,19 @@ pub(crate) fn job_of(task: Task, bytes: &[u8]) -> Result<Job<LentJob<'_>, HeapJo
         Task::Cross(coin) => Job::Lent(LentJob::Cross(CrossJob::read(coin, bytes)?)),
         Task::Check { from, count } => Job::Lent(LentJob::Checked(check_job(from, count, bytes)?)),
         Task::Replay => Job::Lent(LentJob::Replay(ReplayJob::read(bytes)?)),
-        Task::Meter { coin, line, lo, hi } => Job::Lent(LentJob::Meter(MeterJob::read(coin, &line, lo, hi, bytes)?)),
-        Task::Multi { coin, hands } => Job::Lent(LentJob::Multi(MultiJob::read(coin, hands, bytes)?)),
+        Task::Meter { coin, line, lo, hi } => Job::Lent(LentJob::Meter(MeterJob::read(
+            coin, &line, lo, hi, bytes,
+        )?)),
+        Task::Multi { coin, hands } => Job::Lent(LentJob::Multi(MultiJob::read(
+            coin, hands, bytes,
+        )?)),
         Task::Hits(coin) => Job::Lent(LentJob::Hits(HitsJob::read(coin, bytes)?)),
         Task::Sessions => Job::Heap(HeapJob::Sessions(SessionsJob::read(bytes)?)),
-        Task::Play { coin, seed, games } => Job::Heap(HeapJob::Play(PlayJob::read(coin, seed, games, bytes)?)),
-        Task::Compile { coin, millionths } => Job::Heap(HeapJob::Compile(CompileJob::read(coin, millionths, bytes)?)),
+        Task::Play { coin, seed, games } => Job::Heap(HeapJob::Play(PlayJob::read(
+            coin, seed, games, bytes,
+        )?)),
+        Task::Compile { coin, millionths } => Job::Heap(HeapJob::Compile(CompileJob::read(
+            coin, millionths, bytes,
+        )?)),
     })
 }

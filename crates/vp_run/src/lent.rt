@@ -6,8 +6,8 @@ ghost use Rattle.vp_run.specs.Answer.{answer, tables_answer, usage};
 ghost use Rattle.vp_run.specs.Memory.{IsEnough, IsShort, IsTooLong, WantsMore};
 
 use crate::job::job_of;
-use crate::top::USAGE;
 use crate::tables::put_tables;
+use crate::top::USAGE;
 use vp_answer::{Status, is_alone, words_of_read, write_lent};
 use vp_command::{Command, command_of};
 use vp_io::{LIMIT, Sink, WriteFault, put};
