@@ -1,6 +1,6 @@
 -- Pay tables are read exactly: each from its spelling, and from no other lines.
-use Rattle.std.proofs.Common.{◌≡◌, ℕ, zero, suc, ◌-◌, ◌≤◌, ◌<◌, Bool, true, false, not, nat_lt, ◌&&◌, ◌||◌, eqb, List, [], ◌∷◌, ◌++◌, map, length, replicate, refl, ap, sym, ◌∙◌, arith, Some, None, IfSome, length-append, append_assoc}
-use Rattle.std.specs.Prelude.{Option, Result, Ok, Err, IfOk, IfErr, bytes_eq, codes}
+use Rattle.std.proofs.Common.{◌≡◌, ℕ, zero, suc, ◌-◌, ◌≤◌, ◌<◌, Bool, true, false, not, nat_lt, ◌&&◌, ◌||◌, eqb, List, [], ◌∷◌, ◌++◌, map, length, replicate, refl, sym, arith, Some, None, IfSome, length-append, append_assoc}
+use Rattle.std.specs.Prelude.{Option, bytes_eq, codes}
 use Rattle.std.specs.List.{All, AllByRecursion, IsDistinct}
 use Rattle.std.specs.Fmt.{decimal}
 use Rattle.std.specs.Cmp.Lexicographic.{pointwise}
@@ -8,8 +8,8 @@ use Rattle.std.proofs.lemmas.List.{append-nil, length-replicate}
 use Rattle.std.proofs.lemmas.Bool.{leb-true, le-leb}
 use Rattle.std.proofs.lemmas.Bool.Decides.{nat_tests}
 use Rattle.vp_card.specs.Cards.{IsDeck}
-use Rattle.vp_text.specs.Lines.{Word, Feed}
-use Rattle.vp_text.specs.Sections.{Text, Starts, Refuses, both_text, AreBoth}
+use Rattle.vp_text.specs.Lines.{Word}
+use Rattle.vp_text.specs.Sections.{Text, both_text, AreBoth}
 use Rattle.vp_text.specs.ExactReaders.{Exact, Keeps, Closes, AreClosed, closed_text, ExactText}
 use Rattle.vp_text.proofs.Sections.{Exact-line}
 use Rattle.vp_text.proofs.Joined.{Exact-both, Exact-mapped}
