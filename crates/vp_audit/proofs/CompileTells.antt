@@ -31,8 +31,8 @@ use Rattle.vp_compile.specs.Orders.{exchange}
 use Rattle.vp_compile.specs.Rows.{row_at}
 use Rattle.vp_compile.proofs.Excepted.{best_given}
 use Rattle.vp_compile.proofs.OrderLaws.{order_kept_at}
-use Rattle.vp_check.proofs.FewClasses.{few_classes}
-use Rattle.vp_check.proofs.ShortTexts.{short_table}
+use Rattle.vp_suit.proofs.FewClasses.{few_classes}
+use Rattle.vp_pay.proofs.ShortTables.{short_table}
 use Rattle.vp_audit.specs.Audits.{audited, loss}
 use Rattle.vp_audit.specs.Compiled.{best_exception, ordered_list}
 use Rattle.vp_audit.proofs.CompiledLists.{compiled_is}

@@ -21,7 +21,7 @@ use Rattle.vp_rule.specs.Valid.{IsException, IsList, IsRule, IsTest}
 use Rattle.vp_rule.specs.declared.rule.Rule.{Rule}
 use Rattle.vp_rule.specs.declared.rule.Test.{Test}
 use Rattle.vp_rule.specs.declared.rule.Test.TheVariants.{Hold, Wilds, Suited, Mixed, Royal, Windows, Count, Equal, Ranks, Made, Left, LeftSuit}
-use Rattle.vp_check.proofs.ShortTexts.{room_name, room_ranks}
+use Rattle.vp_pay.proofs.ShortTables.{room_name, room_ranks}
 
 -- ---- rules
 

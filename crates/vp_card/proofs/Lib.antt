@@ -5,3 +5,4 @@ pub mod RankSets
 pub mod Rises
 pub mod Rising
 pub mod Texts
+mod Tables

@@ -1,5 +1,5 @@
 -- How the texts of cards and of sets of ranks are read from left to right.
-use Rattle.std.specs.Prelude.{ℕ, Bool, false, ◌+◌, ◌*◌, ◌==◌, List, [], ◌∷◌, Option, Some, None, option_map, bytes_eq, if◌then◌else◌}
+use Rattle.std.specs.Prelude.{ℕ, Bool, false, ◌+◌, ◌-◌, ◌*◌, nat_lt, ◌==◌, List, [], ◌∷◌, Option, Some, None, option_map, bytes_eq, if◌then◌else◌}
 use Rattle.std.specs.List.{position}
 use Rattle.vp_card.specs.Texts.{rank_letters, suit_letters, joker_text, second_joker_text, any_text}
 
@@ -10,6 +10,10 @@ rank_of byte = position (λ letter. letter == byte) rank_letters
 -- the suit with this letter
 unfoldable pub suit_of : ℕ → Option ℕ
 suit_of byte = position (λ letter. letter == byte) suit_letters
+
+-- the number of a letter, counted from `a`
+abbrev pub number_of : ℕ → Option ℕ
+number_of letter = if nat_lt letter 97 then None else Some (letter - 97)
 
 abbrev pub natural_card : Option ℕ → Option ℕ → Option ℕ
 natural_card (Some rank) (Some suit) = Some (4 * rank + suit)

@@ -85,8 +85,8 @@ fn card_of(text: &[u8]) -> Option<Card>
     ensures { result ≡ card_of text.now }
 {
     match text {
-        b"Jo" => Some(Card(52)),
-        b"Jk" => Some(Card(53)),
+        [b'J', b'o'] => Some(Card(52)),
+        [b'J', b'k'] => Some(Card(53)),
         [rank, suit] => {
             let rank = rank_of(*rank)?;
             let suit = suit_of(*suit)?;

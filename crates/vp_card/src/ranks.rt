@@ -2,7 +2,7 @@
 
 ghost use Rattle.std.specs.Prelude.{◌≡◌, ◌<◌, slice_index, IfSome};
 ghost use Rattle.vp_card.specs.Texts.{rank_letters, suit_letters};
-ghost use Rattle.vp_card.specs.Reading.{rank_of, suit_of};
+ghost use Rattle.vp_card.specs.Reading.{number_of, rank_of, suit_of};
 
 #[tactic(auto, unfolding(crate::specs::Texts::rank_letters))]
 pub(crate) fn rank_letters() -> &'static [u8; 13]
@@ -18,42 +18,54 @@ pub(crate) fn suit_letters() -> &'static [u8; 4]
     b"cdhs"
 }
 
+/// For each byte a letter, counted from `a`: that of the rank whose letter the byte is; or a dot.
+static RANKS: [u8; 256] = *b"\
+    ................................\
+    ..................abcdefgh......\
+    .m........jl.....k..i...........\
+    ................................\
+    ................................\
+    ................................\
+    ................................\
+    ................................";
+
+/// The same for suits.
+static SUITS: [u8; 256] = *b"\
+    ................................\
+    ................................\
+    ................................\
+    ...ab...c..........d............\
+    ................................\
+    ................................\
+    ................................\
+    ................................";
+
+/// The number of a letter, counted from `a`; None for a byte below it.
+fn number_of(letter: u8) -> Option<u8>
+    ensures { result ≡ number_of letter }
+{
+    if letter < b'a' {
+        None
+    } else {
+        Some(letter - b'a')
+    }
+}
+
 /// The rank with this letter, one of `23456789TJQKA`; None for any other byte.
-#[tactic(auto, unfolding(crate::specs::Reading::rank_of, crate::specs::Texts::rank_letters))]
+#[tactic(auto, using(crate::proofs::Tables::ranks_table))]
 pub fn rank_of(letter: u8) -> Option<u8>
     ensures value { result ≡ rank_of letter }
     ensures below { IfSome result (λ rank. rank < 13) }
 {
-    Some(match letter {
-        b'2' => 0,
-        b'3' => 1,
-        b'4' => 2,
-        b'5' => 3,
-        b'6' => 4,
-        b'7' => 5,
-        b'8' => 6,
-        b'9' => 7,
-        b'T' => 8,
-        b'J' => 9,
-        b'Q' => 10,
-        b'K' => 11,
-        b'A' => 12,
-        _ => return None,
-    })
+    number_of(RANKS[letter as usize])
 }
 
-#[tactic(auto, unfolding(crate::specs::Reading::suit_of, crate::specs::Texts::suit_letters))]
+#[tactic(auto, using(crate::proofs::Tables::suits_table))]
 pub(crate) fn suit_of(letter: u8) -> Option<u8>
     ensures value { result ≡ suit_of letter }
     ensures below { IfSome result (λ suit. suit < 4) }
 {
-    Some(match letter {
-        b'c' => 0,
-        b'd' => 1,
-        b'h' => 2,
-        b's' => 3,
-        _ => return None,
-    })
+    number_of(SUITS[letter as usize])
 }
 
 /// The letter of a rank, which `rank_of` takes.

@@ -5,8 +5,12 @@ mod asked;
 mod certificate;
 mod classes;
 mod holds;
+mod job;
+mod laws;
 mod lines;
 
 pub use asked::Asked;
 pub use certificate::certify;
 pub use holds::Holds;
+pub use job::CertifyJob;
+pub use laws::{certificates_are_checked, certificates_tell_every_deal, certify_inputs_are_read};

@@ -7,7 +7,8 @@ use Rattle.vp_text.specs.Lines.{Word, feed_of}
 use Rattle.vp_text.specs.Sections.{Text, both_text, AreBoth}
 use Rattle.vp_text.specs.ExactReaders.{Exact, rows_text, AreRows}
 use Rattle.vp_text.proofs.Numbers.{number_within_exact}
-use Rattle.vp_text.proofs.Pieces.{bound, at_end, took, Exact-key_word, Exact-keyed}
+use Rattle.vp_text.proofs.Pieces.{Exact-key_word}
+use Rattle.vp_text.proofs.Sequences.{Exact-all_of, Exact-keyed}
 use Rattle.vp_text.proofs.Sections.{Exact-line}
 use Rattle.vp_text.proofs.Joined.{Exact-both, Exact-mapped}
 use Rattle.vp_text.proofs.Whole.{whole_found, whole_again, whole_stops, whole_refused}
@@ -39,20 +40,9 @@ Exact-bet coins some most =
 end_words : Unit {0} → List Word
 end_words u = codes "end" ∷ []
 
-end_taken : (words : List Word) (value : Unit {0}) → end_of words ≡ Some value → Unit {0} × (end_words value ≡ words)
-unfolding end_words
-end_taken words value read =
-    let key = bound _ _ _ read in
-    let end = at_end _ _ _ key.then in
-    let k = took (Exact-key_word (codes "end")) words key.value key.first in
-    (tt, sym (k.front ∙ ap (λ (ws : List Word). codes "end" ∷ ws) end.0))
-
-end_again : (value : Unit {0}) → Unit {0} → end_of (end_words value) ≡ Some value
-unfolding end_words
-end_again value is = refl
-
 Exact-end : Exact (λ (u : Unit {0}). end_words u ∷ []) (λ u. Unit {0}) end_line
-Exact-end = Exact-line end_words (λ u. Unit {0}) end_of (record { takes = λ words value read. end_taken words value read; again = end_again }) tt tt
+unfolding end_words
+Exact-end = Exact-line end_words (λ u. Unit {0}) end_of (Exact-all_of (Exact-key_word (codes "end")) refl) tt tt
 
 -- ---- the parts
 

@@ -1,5 +1,5 @@
 -- Many calls of `check` on one certificate tell what one call tells that walks all of their class lines.
-use Rattle.std.proofs.Common.{◌≡◌, ℕ, List}
+use Rattle.std.proofs.Common.{ℕ, List}
 use Rattle.vp_check.specs.Certificates.{Certificate}
 use Rattle.vp_check.specs.Parts.{AreTrueWalks, Walk}
 use Rattle.vp_check.specs.Spelling.{SpellsCertificate}

@@ -1,5 +1,5 @@
 -- Class lines and the return: each is read from its words, and from no others.
-use Rattle.std.proofs.Common.{◌≡◌, ℕ, ◌<◌, ◌≤◌, ◌^◌, Bool, true, false, cond, ◌&&◌, nat_lt, List, [], ◌∷◌, ◌++◌, map, length, refl, ap, subst, ◌∙◌, arith, Some, None, inl, inr, ◌⊎◌, length-append, append_assoc}
+use Rattle.std.proofs.Common.{◌≡◌, ℕ, ◌<◌, ◌≤◌, ◌^◌, Bool, true, false, cond, nat_lt, List, [], ◌∷◌, ◌++◌, length, refl, ap, ◌∙◌, arith, Some, None, inl, inr, ◌⊎◌, length-append, append_assoc}
 use Rattle.std.specs.Prelude.{Option, option_map, codes}
 use Rattle.std.specs.Fmt.{decimal}
 use Rattle.std.specs.List.{AllByRecursion}
@@ -7,21 +7,20 @@ use Rattle.std.proofs.lemmas.Bool.{lt-ltb, ltb-true}
 use Rattle.std.proofs.lemmas.List.{append-nil}
 use Rattle.std.proofs.lemmas.List.Elements.{All-from_recursion}
 use Rattle.vp_card.specs.Cards.{in_deck, rises}
-use Rattle.vp_card.specs.Texts.{card_text}
-use Rattle.vp_card.specs.Reading.{card_of}
 use Rattle.vp_text.specs.Lines.{Word}
 use Rattle.vp_text.specs.Reading.{next_is}
-use Rattle.vp_text.specs.Pieces.{◌>>=◌, so_many}
+use Rattle.vp_text.specs.Pieces.{◌>>=◌}
 use Rattle.vp_text.specs.ExactReaders.{Exact, Keeps, on_item, Finish, rows_text, AreRows, ExactText}
-use Rattle.vp_text.specs.Numbers.{number_of, number_within}
+use Rattle.vp_text.specs.Numbers.{number_within}
 use Rattle.vp_text.proofs.Numbers.{number_exact, number_within_exact}
-use Rattle.vp_text.proofs.Pieces.{both_true, bound, at_end, chosen, no_value, so, took, Exact-key_word, Exact-so_many, Exact-one_word}
+use Rattle.vp_text.proofs.Pieces.{both_true, bound, chosen, no_value, so, Exact-so_many, Exact-one_word}
+use Rattle.vp_text.proofs.Sequences.{Exact-then, Exact-after, Exact-all_of, Exact-made, Exact-passing, Exact-also}
 use Rattle.vp_text.proofs.Rows.{Exact-rows}
 use Rattle.vp_pay.proofs.Deals.{Exact-card}
 use Rattle.vp_pay.proofs.Tables.{of_all}
 use Rattle.vp_suit.specs.Classes.{IsDeal, representatives}
 use Rattle.vp_check.specs.Certificates.{IsClassLine}
-use Rattle.vp_check.specs.Reading.{of_deck, class_of, return_of, row_of, may_follow, class_or_return, class_lines}
+use Rattle.vp_check.specs.Reading.{ClassParts, class_from, class_of, return_of, rises_in, row_of, may_follow, class_or_return, class_lines}
 use Rattle.vp_check.specs.Spelling.{class_words, return_words}
 use Rattle.vp_check.specs.declared.class_line.ClassLine.{ClassLine}
 use Rattle.vp_card.proofs.InDeck.{all_below, below_all, below_more}
@@ -47,63 +46,30 @@ Exact-weight = number_within_exact 1 24 (omega arith)
 Exact-mask : ExactText decimal (λ mask. (0 ≤ mask) × (mask ≤ 31)) (number_within 0 31)
 Exact-mask = number_within_exact 0 31 (omega arith)
 
--- the words of a line out of its pieces
-joined : (words w1 w2 w3 w4 w5 : List Word) (key : Word) (cards : List Word) (weight mask value : Word)
-    → words ≡ key ∷ w1 → w1 ≡ cards ++ w2 → w2 ≡ weight ∷ w3 → w3 ≡ mask ∷ w4 → w4 ≡ value ∷ w5 → w5 ≡ [] → key ∷ cards ++ weight ∷ mask ∷ value ∷ [] ≡ words
-joined words w1 w2 w3 w4 w5 key cards weight mask value e1 e2 e3 e4 e5 e6 = rw (e1, e2, e3, e4, e5, e6)
-
-class_taken : (n : ℕ) (words : List Word) (line : ClassLine) → class_of n words ≡ Some line → IsClassLine n line × (class_words line ≡ words)
-unfolding class_of class_words
-class_taken n words line read =
-    let key = bound _ _ _ read
-    in let cards = bound _ _ _ key.then
-    in let weight = bound _ _ _ cards.then
-    in let mask = bound _ _ _ weight.then
-    in let value = bound _ _ _ mask.then
-    in let made = bound _ _ _ value.then
-    in let end = at_end _ _ _ made.first
-    in let k = took (Exact-key_word (codes "class")) words key.value key.first
-    in let c = took (Exact-so_many Exact-card 5) key.value.1 cards.value cards.first
-    in let w = took (Exact-one_word Exact-weight) cards.value.1 weight.value weight.first
-    in let m = took (Exact-one_word Exact-mask) weight.value.1 mask.value mask.first
-    in let v = took (Exact-one_word number_exact) mask.value.1 value.value value.first
-    in let l : ClassLine = record { hand = cards.value.0; weight = weight.value.0; mask = mask.value.0; value = value.value.0 }
-    in let P : ClassLine → Type 0 = λ l. IsClassLine n l × (class_words l ≡ words)
-    in let spelled : class_words l ≡ words =
-    joined words _ _ _ _ _ (codes "class") (map card_text cards.value.0) (decimal weight.value.0) (decimal mask.value.0) (decimal value.value.0) k.front c.front w.front m.front v.front end.0
-    in let then : of_deck n l ≡ Some line = ap (of_deck n) end.1 ∙ made.then
-    in chosen P (rises l.hand && in_deck n l.hand) (Some l) None line then
-    (λ is e.
-    let parts = both_true (rises l.hand) (in_deck n l.hand) is
-    in so P l line e (
-      record {
-        deal = rising_deal n l.hand c.valid.count parts.0 parts.1;
-        some_weight = w.valid.0;
-        most_weight = w.valid.1;
-        mask = omega (arith, m.valid.1);
-        value = v.valid;
-      },
-      spelled,
-    ))
-    (λ e. absurd (no_value line e))
-
-class_again : (n : ℕ) (line : ClassLine) → n ≤ 54 → IsClassLine n line → class_of n (class_words line) ≡ Some line
-unfolding class_of class_words
-class_again n line most is =
-    let below = deal_below n line.hand is.deal in
-    let rest : List Word = decimal line.weight ∷ decimal line.mask ∷ decimal line.value ∷ [] in
-    let cards : so_many card_of 5 (map card_text line.hand ++ rest) ≡ Some (line.hand, rest) =
-    (Exact-so_many Exact-card 5).again rest line.hand (record { count = is.deal.five; all = below_more n 54 line.hand most below }) refl in
-    let weight : number_within 1 24 (decimal line.weight) ≡ Some line.weight = Exact-weight.again line.weight (is.some_weight, is.most_weight) in
-    let mask : number_within 0 31 (decimal line.mask) ≡ Some line.mask = Exact-mask.again line.mask (omega arith, omega (arith, is.mask)) in
-    let value : number_of (decimal line.value) ≡ Some line.value = number_exact.again line.value is.value in
-    rw (cards, weight, mask, value, increasing-rises line.hand is.deal.set.rising, below_all n line.hand below)
+abbrev parts_of : ClassLine → ClassParts
+parts_of line = (line.hand, (line.weight, (line.mask, line.value)))
 
 pub Exact-class : (n : ℕ) → n ≤ 54 → ExactText class_words (IsClassLine n) (class_of n)
-Exact-class n most = record {
-  takes = λ words line read. class_taken n words line read;
-  again = λ line is. class_again n line most is;
-}
+unfolding class_of class_words
+Exact-class n most =
+    let numbers = Exact-then (Exact-one_word Exact-weight) (Exact-then (Exact-one_word Exact-mask) (Exact-one_word number_exact)) in
+    let parts = Exact-after (codes "class") (Exact-then (Exact-so_many Exact-card 5) numbers) in
+    Exact-also (Exact-passing (Exact-made (Exact-all_of parts refl) class_from parts_of (λ p. refl) (λ line. refl)) (rises_in n))
+    class_words (λ line. refl)
+    (λ line is.
+    let cards = both_true (rises line.hand) (in_deck n line.hand) is.1 in
+    record {
+      deal = rising_deal n line.hand is.0.0.count cards.0 cards.1;
+      some_weight = is.0.1.0.0;
+      most_weight = is.0.1.0.1;
+      mask = omega (arith, is.0.1.1.0.1);
+      value = is.0.1.1.1;
+    })
+    (λ line is.
+    let below = deal_below n line.hand is.deal in (
+      (record { count = is.deal.five; all = below_more n 54 line.hand most below }, ((is.some_weight, is.most_weight), ((omega arith, omega (arith, is.mask)), is.value))),
+      rw (increasing-rises line.hand is.deal.set.rising) (below_all n line.hand below),
+    ))
 
 -- ---- the return
 
@@ -114,34 +80,11 @@ IsReturn r = (r.0 < 2 ^ 64) × (r.1 < 2 ^ 64)
 abbrev pub words_of_return : ℕ × ℕ → List Word
 words_of_return r = return_words r.0 r.1
 
-return_joined : (words w1 w2 w3 w4 : List Word) (key sum over denominator : Word)
-    → words ≡ key ∷ w1 → w1 ≡ sum ∷ w2 → w2 ≡ over ∷ w3 → w3 ≡ denominator ∷ w4 → w4 ≡ [] → key ∷ sum ∷ over ∷ denominator ∷ [] ≡ words
-return_joined words w1 w2 w3 w4 key sum over denominator e1 e2 e3 e4 e5 = rw (e1, e2, e3, e4, e5)
-
-return_taken : (words : List Word) (r : ℕ × ℕ) → return_of words ≡ Some r → IsReturn r × (words_of_return r ≡ words)
+Exact-return : ExactText words_of_return IsReturn return_of
 unfolding return_of return_words
-return_taken words r read =
-    let key = bound _ _ _ read
-    in let sum = bound _ _ _ key.then
-    in let over = bound _ _ _ sum.then
-    in let denominator = bound _ _ _ over.then
-    in let end = at_end _ _ _ denominator.then
-    in let k = took (Exact-key_word (codes "return")) words key.value key.first
-    in let s = took (Exact-one_word number_exact) key.value.1 sum.value sum.first
-    in let o = took (Exact-key_word (codes "/")) sum.value.1 over.value over.first
-    in let d = took (Exact-one_word number_exact) over.value.1 denominator.value denominator.first
-    in let P : ℕ × ℕ → Type 0 = λ r. IsReturn r × (words_of_return r ≡ words)
-    in subst P end.1 (
-      (s.valid, d.valid),
-      return_joined words _ _ _ _ (codes "return") (decimal sum.value.0) (codes "/") (decimal denominator.value.0) k.front s.front o.front d.front end.0,
-    )
-
-return_again : (r : ℕ × ℕ) → IsReturn r → return_of (words_of_return r) ≡ Some r
-unfolding return_of return_words
-return_again r is =
-    let sum : number_of (decimal r.0) ≡ Some r.0 = number_exact.again r.0 is.0 in
-    let denominator : number_of (decimal r.1) ≡ Some r.1 = number_exact.again r.1 is.1 in
-    rw (sum, denominator)
+Exact-return =
+    let parts = Exact-after (codes "return") (Exact-then (Exact-one_word number_exact) (Exact-after (codes "/") (Exact-one_word number_exact))) in
+    Exact-also (Exact-all_of parts refl) words_of_return (λ r. refl) (λ r is. is) (λ r is. is)
 
 -- ---- class lines up to the return
 
@@ -169,7 +112,7 @@ row_taken n words row most read = by_key (next_is (codes "return") words) read
 
     a_return : (o : Option (ℕ × ℕ)) → return_of words ≡ o → option_map as_return o ≡ Some row → P row
     a_return None is e = absurd (no_value row e)
-    a_return (Some r) is e = so P (inr r) row e (return_taken words r is)
+    a_return (Some r) is e = so P (inr r) row e (Exact-return.takes words r is)
 
     a_class : (o : Option ClassLine) → class_of n words ≡ o → option_map as_class o ≡ Some row → P row
     a_class None is e = absurd (no_value row e)
@@ -194,7 +137,7 @@ row_again n (inl line) most is =
     ∙ ap (option_map as_class) ((Exact-class n most).again line is)
 row_again n (inr r) most is =
     ap (λ (b : Bool). cond b (option_map as_return (return_of (words_of_return r))) (option_map as_class (class_of n (words_of_return r)))) (return_is r)
-    ∙ ap (option_map as_return) (return_again r is)
+    ∙ ap (option_map as_return) (Exact-return.again r is)
 
 -- a class line may follow these
 pub record MayFollow (n : ℕ) (front : List ClassLine) (line : ClassLine) : Type 0 where

@@ -11,7 +11,6 @@ pub mod Walked
 pub mod Verdicts
 pub mod Answered
 pub mod PlainCertificates
-pub mod FewClasses
 pub mod ShortTexts
 pub mod CheckInputs
 pub mod CheckTells

@@ -1,12 +1,12 @@
 -- Class lines of which none is kept are the class lines that are read.
-use Rattle.std.proofs.Common.{◌≡◌, ℕ, ◌+◌, Bool, true, false, cond, if◌then◌else◌, nat_lt, List, [], ◌∷◌, ◌++◌, map, length, refl, sym, ap, subst, ◌∙◌, arith, Some, None, inl, inr, ◌⊎◌, length-append, append_assoc}
+use Rattle.std.proofs.Common.{◌≡◌, ℕ, Bool, true, false, cond, if◌then◌else◌, nat_lt, List, [], ◌∷◌, ◌++◌, map, length, refl, sym, ap, subst, ◌∙◌, arith, Some, None, inl, inr, ◌⊎◌, length-append, append_assoc}
 use Rattle.std.specs.Prelude.{Option, option_map, Result, Ok, Err, codes}
 use Rattle.std.proofs.lemmas.List.{append-nil}
 use Rattle.std.proofs.lemmas.Slice.Eq.{bytes_eq-Decides}
 use Rattle.vp_text.specs.Lines.{Word, WordLine, Feed, Past}
 use Rattle.vp_text.specs.Pieces as pieces
 use Rattle.vp_text.specs.Reading.{behind, next_is, by_row, rows_at, ◌>>=◌}
-use Rattle.vp_text.proofs.Follows.{Beside, Follows}
+use Rattle.vp_text.proofs.Follows.{Follows}
 use Rattle.vp_suit.specs.Classes.{representatives}
 use Rattle.vp_check.specs.Listing.{comes_to, counted_at, counted, counted_rows, counted_with, listed_with, none_listed}
 use Rattle.vp_check.specs.Reading.{class_of, return_of, row_of, may_follow, class_or_return, class_lines}

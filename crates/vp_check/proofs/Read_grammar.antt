@@ -20,7 +20,7 @@ use Rattle.vp_check.specs.Listing.{comes_to, counted_rows, none_listed, ReadPart
 use Rattle.vp_check.specs.Read.{certificate_read, AreAt, IsRead}
 use Rattle.vp_check.specs.Reading.{bet_line, class_lines, end_line, CertificateParts, certificate_from, certificate_parts_at, certificate_at}
 use Rattle.vp_check.specs.declared.class_line.ClassLine.{ClassLine}
-use Rattle.vp_check.specs.Rows.{classes_of, numbered_classes}
+use Rattle.vp_check.specs.Rows.{classes_of}
 use Rattle.vp_check.specs.declared.numbered.Numbered.{Numbered}
 use Rattle.vp_check.specs.declared.reading.Counted.{Counted}
 use Rattle.vp_check.specs.declared.reading.ReadCertificate.{ReadCertificate}

@@ -1,14 +1,14 @@
 -- What the check answers is what is due to the text.
 use Rattle.std.proofs.Common.{◌≡◌, ℕ, ◌+◌, ◌*◌, Option, Some, None, Result, Ok, Err, List, [], ◌∷◌, length, refl, ap, sym, subst, ◌∙◌, arith}
 use Rattle.std.specs.Prelude.{option_map}
-use Rattle.std.specs.List.{sum_by, count_by}
+use Rattle.std.specs.List.{sum_by}
 use Rattle.std.specs.Option.{IfSome, IsSomeAnd}
 use Rattle.std.proofs.lemmas.List.{length-map}
-use Rattle.vp_text.specs.Lines.{Feed, feed_of}
+use Rattle.vp_text.specs.Lines.{feed_of}
 use Rattle.vp_pay.specs.declared.table.PayTable.{PayTable}
 use Rattle.vp_check.specs.Certificates.{Certificate}
 use Rattle.vp_check.specs.Checking.{certificate_of, line_number, bad_at, verdict, check_result, walked_lines}
-use Rattle.vp_check.specs.Listing.{comes_to, counted_breach, none_listed}
+use Rattle.vp_check.specs.Listing.{counted_breach, none_listed}
 use Rattle.vp_check.specs.Read.{IsRead, certificate_read}
 use Rattle.vp_check.specs.Rows.{classes_of}
 use Rattle.vp_check.specs.Rules.{first_of, at, Break, cover_breach, sum_breach, denominator_breach, return_breach, class_break, first_break}

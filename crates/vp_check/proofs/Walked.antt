@@ -19,7 +19,7 @@ use Rattle.vp_check.specs.Checking.{bad_at, line_number}
 use Rattle.vp_check.specs.Listing.{broken_at, comes_to, listed_with}
 use Rattle.vp_check.specs.Read.{AreAt}
 use Rattle.vp_check.specs.Rows.{classes_of}
-use Rattle.vp_check.specs.Rules.{Row, Break, at, first_of, in_range, rows_from, listed_breach, walked_breach, class_breach, class_break}
+use Rattle.vp_check.specs.Rules.{Row, Break, at, first_of, in_range, rows_from, listed_breach, walked_breach, class_breach}
 use Rattle.vp_check.specs.Walks.{found_or, walk_end, walked_at}
 use Rattle.vp_check.specs.declared.class_line.ClassLine.{ClassLine}
 use Rattle.vp_check.specs.declared.listed.Broken.{Broken}
@@ -28,7 +28,7 @@ use Rattle.vp_check.specs.declared.numbered.Numbered.{Numbered}
 use Rattle.vp_check.specs.declared.rules.Breach.{Breach}
 use Rattle.vp_check.specs.declared.finding.Finding.{Finding}
 use Rattle.vp_check.specs.declared.finding.Finding.TheVariants.{Bad}
-use Rattle.vp_check.proofs.KeptRules.{break_at, first_later, first_here}
+use Rattle.vp_check.proofs.KeptRules.{break_at}
 
 -- ---- class lines that are read one by one
 

@@ -1,12 +1,14 @@
 -- How a certificate is read from left to right.
-use Rattle.std.specs.Prelude.{ℕ, ◌&&◌, nat_lt, List, length, Option, Some, None, option_map, ◌⊎◌, codes, if◌then◌else◌}
+use Rattle.std.specs.Prelude.{ℕ, Bool, ◌&&◌, nat_lt, List, length, Option, Some, None, option_map, ◌⊎◌, codes, if◌then◌else◌}
 use Rattle.std.proofs.Common.{inl, inr}
 use Rattle.vp_card.specs.Cards.{in_deck, rises}
 use Rattle.vp_card.specs.Reading.{card_of}
 use Rattle.vp_text.specs.Lines.{Word}
 use Rattle.vp_text.specs.Reading.{next_is, one_line, both, rows, mapped}
 use Rattle.vp_text.specs.Numbers.{number_of, number_within}
-use Rattle.vp_text.specs.Pieces.{◌>>=◌, one_word, so_many, key_word, ended, keyed}
+use Rattle.vp_text.specs.Pieces.{Piece, ◌>>=◌, one_word, so_many, key_word}
+use Rattle.vp_text.specs.Streams.{passing}
+use Rattle.vp_text.specs.Sequences.{◌>>◌, after, all_of}
 use Rattle.vp_text.specs.ExactReaders.{Reader}
 use Rattle.vp_pay.specs.Sections.{table_at}
 use Rattle.vp_pay.specs.declared.table.PayTable.{PayTable}
@@ -16,31 +18,29 @@ use Rattle.vp_check.specs.declared.class_line.ClassLine.{ClassLine}
 
 -- ---- class lines
 
--- this class line, where its cards rise and are of a deck of n
-abbrev pub of_deck : ℕ → ClassLine → Option ClassLine
-of_deck n line = if rises line.hand && in_deck n line.hand then Some line else None
+-- its cards rise and are of a deck of n
+abbrev pub rises_in : ℕ → ClassLine → Bool
+rises_in n line = rises line.hand && in_deck n line.hand
+
+-- cards, a weight, a mask and a value
+abbrev pub ClassParts : Type 0
+ClassParts = List ℕ × (ℕ × (ℕ × ℕ))
+
+abbrev pub class_from : ClassParts → ClassLine
+class_from p = record { hand = p.0; weight = p.1.0; mask = p.1.1.0; value = p.1.1.1 }
+
+abbrev pub class_parts : Piece ClassParts
+class_parts = after (codes "class") (so_many card_of 5 >> one_word (number_within 1 24) >> one_word (number_within 0 31) >> one_word number_of)
 
 -- `class`, five rising cards of a deck of n, a weight from 1 to 24, a mask from 0 to 31, and a number
 unfoldable pub class_of : ℕ → List Word → Option ClassLine
-class_of n words = do
-  key ← key_word (codes "class") words
-  cards ← so_many card_of 5 key.1
-  weight ← one_word (number_within 1 24) cards.1
-  mask ← one_word (number_within 0 31) weight.1
-  value ← one_word number_of mask.1
-  line ← ended (record { hand = cards.0; weight = weight.0; mask = mask.0; value = value.0 }) value.1
-  of_deck n line
+class_of n words = passing (rises_in n) (option_map class_from (all_of class_parts words))
 
 -- ---- the return
 
 -- `return`, a number, `/`, and a number
 unfoldable pub return_of : List Word → Option (ℕ × ℕ)
-return_of words = do
-  key ← key_word (codes "return") words
-  sum ← one_word number_of key.1
-  over ← key_word (codes "/") sum.1
-  denominator ← one_word number_of over.1
-  ended (sum.0, denominator.0) denominator.1
+return_of words = all_of (after (codes "return") (one_word number_of >> after (codes "/") (one_word number_of))) words
 
 -- ---- sections
 
@@ -69,9 +69,7 @@ class_lines n = rows (class_or_return n)
 
 -- `end` alone
 abbrev pub end_of : List Word → Option (Unit {0})
-end_of words = do
-  key ← key_word (codes "end") words
-  ended tt key.1
+end_of words = all_of (key_word (codes "end")) words
 
 -- the last line
 abbrev pub end_line : Reader (Unit {0})

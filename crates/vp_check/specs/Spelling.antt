@@ -4,6 +4,7 @@ use Rattle.std.specs.Fmt.{decimal}
 use Rattle.vp_card.specs.Texts.{card_text}
 use Rattle.vp_text.specs.Lines.{Word, feed_of}
 use Rattle.vp_text.specs.Sections.{IsWhole, RefusedLine, Text}
+use Rattle.vp_text.specs.Written.{fraction}
 use Rattle.vp_pay.specs.Spelling.{table_text}
 use Rattle.vp_check.specs.Certificates.{Certificate, IsCertificate}
 use Rattle.vp_check.specs.declared.class_line.ClassLine.{ClassLine}
@@ -14,7 +15,7 @@ class_words line = codes "class" ∷ map card_text line.hand ++ decimal line.wei
 
 -- the return: the sum over the denominator
 unfoldable pub return_words : ℕ → ℕ → List Word
-return_words sum denominator = codes "return" ∷ decimal sum ∷ codes "/" ∷ decimal denominator ∷ []
+return_words sum denominator = codes "return" ∷ fraction sum denominator
 
 -- what stands behind the pay table: the bet, the class lines, the return, and `end`
 unfoldable pub cert_text : Certificate → Text

@@ -1,3 +1,5 @@
 pub mod Crossings
 pub mod Later
 pub mod Laws
+pub mod Cross
+pub mod CrossTells

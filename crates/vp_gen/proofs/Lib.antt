@@ -4,3 +4,5 @@ pub mod Drawing
 pub mod Fairness
 pub mod Lines
 pub mod Sizes
+pub mod MadeLogs
+pub mod PlayTells

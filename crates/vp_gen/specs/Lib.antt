@@ -1,2 +1,4 @@
 pub mod Generator
 pub mod Promises
+pub mod Play
+pub mod PlayTells

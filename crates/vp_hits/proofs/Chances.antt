@@ -1,18 +1,11 @@
 -- The number of each hand's line, and what the sums of such numbers tell of a hold.
-use Rattle.std.proofs.Common.{◌≡◌, ◌⊎◌, ◌≢◌, inl, inr, ℕ, zero, suc, ◌+◌, ◌-◌, ◌*◌, ◌/◌, ◌%◌, ◌<◌, ◌≤◌, Bool, true, false, List, [], ◌∷◌, Option, Some, None, length, get_or, set, replicate, refl, sym, ap, subst, ◌∙◌, arith, length-set, get_or-set_same}
-use Rattle.std.proofs.Math.Path.{fun_ext}
-use Rattle.std.specs.Prelude.{sum_by, if◌then◌else◌, ◌==◌, slice_index, IfSome}
-use Rattle.std.specs.List.{All}
+use Rattle.std.proofs.Common.{◌≡◌, ◌≢◌, inl, inr, ℕ, zero, suc, ◌+◌, ◌-◌, ◌*◌, ◌/◌, ◌%◌, ◌<◌, ◌≤◌, Bool, true, false, List, [], ◌∷◌, Option, Some, None, length, get_or, set, replicate, refl, sym, ap, subst, ◌∙◌, arith, length-set, get_or-set_same}
+use Rattle.std.specs.Prelude.{sum_by, if◌then◌else◌, ◌==◌, IfSome}
 use Rattle.std.proofs.lemmas.Bool.Decides.{nat_tests}
-use Rattle.std.proofs.lemmas.List.Quantifiers.{position-Some}
 use Rattle.std.proofs.lemmas.Bool.{cases_eq}
-use Rattle.std.proofs.lemmas.List.{get_or-set_other, get_or_past, length-replicate}
-use Rattle.std.proofs.lemmas.List.Elements.{All-from_get_or, All-get_or}
+use Rattle.std.proofs.lemmas.List.{get_or-set_other, length-replicate}
 use Rattle.std.proofs.lemmas.List.Sums.{sum_by-cons}
 use Rattle.vp_card.specs.Cards.{IsHand, held, in_deck, joined}
-use Rattle.vp_pay.specs.declared.pattern.Pattern.TheVariants.{Royal}
-use Rattle.vp_pay.specs.declared.pattern.Qualifier.TheVariants.{Either}
-use Rattle.vp_pay.specs.declared.table.PayLine.{PayLine}
 use Rattle.vp_pay.specs.declared.table.PayTable.{PayTable}
 use Rattle.vp_pay.specs.Table.{IsTable}
 use Rattle.vp_sets.specs.Sets.{choose}
@@ -20,36 +13,14 @@ use Rattle.vp_sets.specs.Draws.{common, discarded, draws, scale, sum_over_draws}
 use Rattle.vp_sets.proofs.Denominators.{common_small, scale_exact}
 use Rattle.vp_sets.proofs.Holds.{Dealt, dealt_from, length-held, sum_over_draws_le}
 use Rattle.vp_draws.proofs.Values.{scaled_le}
-use Rattle.vp_wild.specs.Payment.{first_line, line}
-use Rattle.vp_wild.specs.Payment.{hits as line_matches}
-use Rattle.vp_count.specs.Sums.{hand_numbers}
+use Rattle.vp_wild.specs.Payment.{line}
 use Rattle.vp_count.specs.Table.{AreSumsOf, Table}
 use Rattle.vp_hold.specs.Means.{mean}
 use Rattle.vp_hold.proofs.ScaledSums.{mean_of, of_sums}
 use Rattle.vp_hits.specs.Hits.{AreHits, Asked, chance, hit, hits, is_asked, mark}
-use Rattle.vp_hits.specs.Numbers.{AreNumbers, AreTwoHits, AskedTwo, place_among, told, two_hits, two_marks}
-
--- ---- the line of a hand
-
-pub nothing : PayLine
-nothing = record { name = []; pattern = Royal; qualifier = Either; pays = [] }
-
-pub inside : (table : PayTable) (hand : List ℕ) (j : ℕ) → line table hand ≡ Some j → j < length table.lines.items
-unfolding first_line
-inside table hand j e = (position-Some (λ (l : PayLine). line_matches table.wild l hand) table.lines.items j nothing e).0
-
--- it is one of at most 32 lines
-few_lines : (table : PayTable) (hand : List ℕ) → IsTable table → IfSome (line table hand) (λ place. place < 32)
-few_lines table hand t = by_line (line table hand) refl
-  where
-    by_line : (o : Option ℕ) → line table hand ≡ o → IfSome o (λ place. place < 32)
-    by_line None e = tt
-    by_line (Some j) e = omega (arith, inside table hand j e, t.most_lines)
-
--- where a place is among the lines
-pub within : (o : Option ℕ) (many : ℕ) → many ≤ 32 → IfSome o (λ place. place < many) → IfSome o (λ place. place < 32)
-within None many l h = tt
-within (Some place) many l h = omega arith
+use Rattle.vp_hold.specs.Numbers.{AreNumbers, place_among, by_line}
+use Rattle.vp_hold.proofs.Numbers.{sums_by_line}
+use Rattle.vp_hits.specs.Numbers.{AreTwoHits, AskedTwo, two_hits, two_marks}
 
 -- ---- numbers by line
 
@@ -60,22 +31,15 @@ mark_le place found = by_test (is_asked place found)
     by_test true = omega arith
     by_test false = omega arith
 
--- if the numbers are those of f for all lines, the sums are those of what f makes of the hands' lines
-pub sums_told : (table : PayTable) (f : Option ℕ → ℕ) (numbers : List ℕ) (sums : Table) → IsTable table → AreNumbers f numbers → AreSumsOf table.deck (told table numbers) sums
-    → AreSumsOf table.deck (λ hand. f (line table hand)) sums
-sums_told table f numbers sums t are s =
-    let same : told table numbers ≡ (λ (hand : List ℕ). f (line table hand)) = fun_ext (λ hand. are.told (line table hand) (few_lines table hand t)) in
-    record { size = s.size; numbers = s.numbers ∙ ap (hand_numbers table.deck) same }
-
-pub hits_told : (asked : Asked) (numbers : List ℕ) (sums : Table) → IsTable asked.table → AreNumbers (mark asked.line) numbers → AreSumsOf asked.table.deck (told asked.table numbers) sums
+pub hits_are : (asked : Asked) (numbers : List ℕ) (sums : Table) → IsTable asked.table → AreNumbers (mark asked.line) numbers → AreSumsOf asked.table.deck (by_line asked.table numbers) sums
     → AreSumsOf asked.table.deck (hit asked.table asked.line) sums
 unfolding hit
-hits_told asked numbers sums t are s = sums_told asked.table (mark asked.line) numbers sums t are s
+hits_are asked numbers sums t are s = sums_by_line asked.table (mark asked.line) numbers sums t are s
 
-pub two_told : (asked : AskedTwo) (numbers : List ℕ) (sums : Table) → IsTable asked.table → AreNumbers (two_marks asked.first asked.second) numbers → AreSumsOf asked.table.deck (told asked.table numbers) sums
+pub two_hits_are : (asked : AskedTwo) (numbers : List ℕ) (sums : Table) → IsTable asked.table → AreNumbers (two_marks asked.first asked.second) numbers → AreSumsOf asked.table.deck (by_line asked.table numbers) sums
     → AreSumsOf asked.table.deck (two_hits asked.table asked.first asked.second) sums
 unfolding hit
-two_told asked numbers sums t are s = sums_told asked.table (two_marks asked.first asked.second) numbers sums t are s
+two_hits_are asked numbers sums t are s = sums_by_line asked.table (two_marks asked.first asked.second) numbers sums t are s
 
 -- ---- chances out of the means
 
@@ -150,35 +114,6 @@ told_two asked own sums hand mask both e g h d is =
     omega (arith, chance_le table asked.first hand mask b.rules (dealt_from table.deck hand h d), common_small table.deck b.rules.known_deck) in
     record { first = omega (arith, whole, small); second = omega (arith, whole, small) }
 
--- ---- bounds on the numbers
-
--- past the end of a list stands 0
-small_at : (m : ℕ) (numbers : List ℕ) (i : ℕ) → All (λ x. x ≤ m) numbers → slice_index numbers i ≤ m
-small_at m numbers i all = elim (inside_or_past i (length numbers)) [
-  | inl l ↦ All-get_or (λ x. x ≤ m) numbers i 0 l all
-  | inr p ↦ (let e : get_or numbers i 0 ≡ 0 = get_or_past numbers i 0 p in omega arith)
-]
-  where
-    inside_or_past : (i n : ℕ) → (i < n) ⊎ (n ≤ i)
-    inside_or_past i n = grind arith
-
-pub number_le : (table : PayTable) (numbers : List ℕ) (hand : List ℕ) → All (λ x. x ≤ 250000000000) numbers → told table numbers hand ≤ 250000000000
-number_le table numbers hand all = small_at 250000000000 numbers (place_among (line table hand)) all
-
--- if all numbers of lines are small, so are all that the list has
-pub numbers_small : (f : Option ℕ → ℕ) (m : ℕ) (numbers : List ℕ) → AreNumbers f numbers → ((found : Option ℕ) → f found ≤ m) → All (λ x. x ≤ m) numbers
-unfolding place_among
-numbers_small f m numbers are small = All-from_get_or (λ x. x ≤ m) numbers 0 each
-  where
-    each : (i : ℕ) → i < length numbers → get_or numbers i 0 ≤ m
-    each i l = elim (line_or_none i) [
-      | inl line ↦ (let e : get_or numbers i 0 ≡ f (Some i) = are.told (Some i) line in omega (arith, small (Some i)))
-      | inr past ↦ (let e : get_or numbers 32 0 ≡ f None = are.told None tt in let last : i ≡ 32 = omega (arith, are.long) in rw last (omega (arith, small None)))
-    ]
-      where
-        line_or_none : (i : ℕ) → (i < 32) ⊎ (32 ≤ i)
-        line_or_none i = grind arith
-
 -- ---- numbers, one line more
 
 -- a number that is added at the place of a line is added for its hands alone
@@ -206,13 +141,13 @@ pub numbers_more : (f : Option ℕ → ℕ) (numbers : List ℕ) (place : Option
     → AreNumbers (λ found. f found + v * mark place found) (set numbers p x)
 numbers_more f numbers place p v x is small h sum are = record {
   long = length-set numbers p x ∙ are.long;
-  told = λ found k. elim (cases_eq (place_among found) p) [
+  number = λ found k. elim (cases_eq (place_among found) p) [
     | inl same ↦ (let marked : mark place found ≡ 1 = mark_same place found h k (same ∙ is) in
         let here : get_or (set numbers p x) (place_among found) 0 ≡ x = ap (λ j. get_or (set numbers p x) j 0) same ∙ get_or-set_same numbers p x 0 (omega (arith, are.long)) in
-        let was : get_or numbers p 0 ≡ f found = ap (λ j. get_or numbers j 0) (sym same) ∙ are.told found k in
+        let was : get_or numbers p 0 ≡ f found = ap (λ j. get_or numbers j 0) (sym same) ∙ are.number found k in
         here ∙ sum ∙ rw (marked, was) (once (f found) v))
     | inr other ↦ (let marked : mark place found ≡ 0 = mark_other place found (λ e. other (e ∙ sym is)) in
-        get_or-set_other numbers p (place_among found) x 0 other ∙ are.told found k ∙ rw marked (none (f found) v))
+        get_or-set_other numbers p (place_among found) x 0 other ∙ are.number found k ∙ rw marked (none (f found) v))
   ];
 }
   where
@@ -231,12 +166,12 @@ nought_at (suc n) zero = refl
 nought_at (suc n) (suc i) = nought_at n i
 
 no_numbers : AreNumbers (λ found. 0) (zeros 33)
-no_numbers = record { long = length-replicate {A = ℕ} 33 0; told = λ found h. nought_at 33 (place_among found) }
+no_numbers = record { long = length-replicate {A = ℕ} 33 0; number = λ found h. nought_at 33 (place_among found) }
 
 pub one_number : (place : Option ℕ) (p : ℕ) → p ≡ place_among place → p < 33 → IfSome place (λ i. i < 32) → AreNumbers (mark place) (set (zeros 33) p 1)
 one_number place p is small h =
     let more = numbers_more (λ found. 0) (zeros 33) place p 1 1 is small h (ap (λ n. n + 1) (sym (nought_at 33 p))) no_numbers in
-    record { long = more.long; told = λ found k. more.told found k ∙ once (mark place found) }
+    record { long = more.long; number = λ found k. more.number found k ∙ once (mark place found) }
   where
     once : (n : ℕ) → 0 + 1 * n ≡ n
     once n = omega arith

@@ -3,3 +3,6 @@ pub mod Printed
 pub mod Shares
 pub mod Masks
 pub mod AskedLines
+pub mod HitLines
+pub mod HitsInputs
+pub mod HitsTells

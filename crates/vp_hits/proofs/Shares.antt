@@ -26,7 +26,7 @@ use Rattle.vp_draws.proofs.Printed.{best_of_class}
 use Rattle.vp_hits.specs.Hits.{chance, hit, is_asked, often, payments, printed_chance}
 use Rattle.vp_hits.specs.Hits.{hits as line_hits}
 use Rattle.vp_hits.specs.Laws.{LinesMakeTheReturn, LinesShareOutDraws, over_lines}
-use Rattle.vp_hits.proofs.Chances.{inside, nothing}
+use Rattle.vp_hold.proofs.Numbers.{inside, nothing}
 use Rattle.vp_suit.proofs.Weighed.{deals_agree}
 
 -- ---- the lines of one hand

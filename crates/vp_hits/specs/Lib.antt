@@ -1,3 +1,5 @@
 pub mod Hits
 pub mod Laws
 pub mod Numbers
+pub mod HitsJob
+pub mod HitsTells

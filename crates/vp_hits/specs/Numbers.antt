@@ -1,32 +1,13 @@
--- A number for each pay line of a table, and one for the hands with no line. Which numbers are told is this program's own choice
+-- A number for each pay line of a table, and one for the hands with no line. Which numbers these are is this program's own choice
 -- (docs/FORMATS.md, `vpoker hits`).
-use Rattle.std.specs.Prelude.{◌≡◌, ℕ, ◌+◌, ◌*◌, ◌<◌, ◌≤◌, List, [], Option, Some, None, IfSome, nat_lt, if◌then◌else◌, length, slice_index, slice_index_or}
+use Rattle.std.specs.Prelude.{◌≡◌, ℕ, ◌+◌, ◌*◌, ◌<◌, ◌≤◌, List, [], Option, Some, None, nat_lt, if◌then◌else◌, length, slice_index, slice_index_or}
 use Rattle.vp_pay.specs.declared.table.PayTable.{PayTable}
 use Rattle.vp_pay.specs.Bets.{IsBet}
 use Rattle.vp_pay.specs.Table.{IsTable}
 use Rattle.vp_suit.specs.Classes.{representatives}
-use Rattle.vp_wild.specs.Payment.{line}
 use Rattle.vp_draws.specs.Draws.{least_best, sum_of_best}
 use Rattle.vp_count.specs.Table.{AreSumsOf, Table}
 use Rattle.vp_hits.specs.Hits.{hit, mark}
-
--- where the number of the line found stands: that of no line behind those of at most 32 lines
-unfoldable pub place_among : Option ℕ → ℕ
-place_among None = 32
-place_among (Some place) = place
-
--- the number of the line found, out of a list
-abbrev pub number_of : List ℕ → Option ℕ → ℕ
-number_of numbers found = slice_index numbers (place_among found)
-
--- the number of a hand
-abbrev pub told : PayTable → List ℕ → List ℕ → ℕ
-told table numbers hand = number_of numbers (line table hand)
-
--- the numbers are those that f gives for the line found
-pub record AreNumbers (f : Option ℕ → ℕ) (numbers : List ℕ) : Type 0 where
-  pub long : length numbers ≡ 33
-  pub told : (found : Option ℕ) → IfSome found (λ place. place < 32) → number_of numbers found ≡ f found
 
 -- two lines at once: a hit of the second counts more than the common denominator of any deck
 abbrev pub two_marks : Option ℕ → Option ℕ → Option ℕ → ℕ

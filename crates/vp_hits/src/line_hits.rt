@@ -7,11 +7,11 @@ ghost use Rattle.vp_sets.specs.Sets.{choose};
 ghost use Rattle.vp_count.specs.Table.{first_word};
 ghost use Rattle.vp_hits.specs.Hits.{chance};
 
-use crate::line_numbers::{marks_of, number_means};
+use crate::line_numbers::marks_of;
 use std::marker::{Brand, Model};
 use std::sync::ledger::{Blank, Ledger};
 use vp_card::Hand;
-use vp_hold::HoldMeans;
+use vp_hold::{HoldMeans, number_means};
 use vp_pay::PayTable;
 use vp_wild::Steps;
 

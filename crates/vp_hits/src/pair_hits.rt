@@ -6,11 +6,11 @@ ghost use Rattle.vp_pay.specs.Table.{IsTable};
 ghost use Rattle.vp_count.specs.Table.{first_word};
 ghost use Rattle.vp_hits.specs.Hits.{chance};
 
-use crate::line_numbers::{SECOND, number_means, two_marks_of};
+use crate::line_numbers::{SECOND, two_marks_of};
 use std::marker::{Brand, Model};
 use std::sync::ledger::{Blank, Ledger};
 use vp_card::Hand;
-use vp_hold::HoldMeans;
+use vp_hold::{HoldMeans, number_means};
 use vp_pay::PayTable;
 use vp_wild::Steps;
 

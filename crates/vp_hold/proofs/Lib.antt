@@ -1,3 +1,4 @@
+pub mod Numbers
 pub mod ByMask
 pub mod ScaledSums
 pub mod Values

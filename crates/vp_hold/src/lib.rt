@@ -2,12 +2,14 @@
 #![tactic(auto)]
 
 mod game;
+mod line_numbers;
 mod means;
 mod payments;
 mod scales;
 mod squares;
 
 pub use game::Game;
+pub use line_numbers::{number_means, place_of};
 pub use means::HoldMeans;
 pub use squares::Squares;
 pub use vp_draws::Best;

@@ -1,19 +1,17 @@
-//! The payments of all sets of five cards, written by rising index, and their means.
+//! The means of the payments of all sets of five cards.
 
-ghost use Rattle.std.specs.Prelude.{◌≡◌, ◌+◌, length, map, slice_index};
+ghost use Rattle.std.specs.Prelude.{◌≡◌, ℕ, ◌+◌, ◌≤◌, List, length};
+ghost use Rattle.std.specs.List.{All};
 ghost use Rattle.vp_pay.specs.Bets.{IsBet};
-ghost use Rattle.vp_sets.specs.Index.{IsSet};
 ghost use Rattle.vp_sets.specs.Sets.{choose};
-ghost use Rattle.vp_count.specs.Runs.{run};
-ghost use Rattle.vp_count.specs.Sums.{hand_numbers};
 ghost use Rattle.vp_count.specs.Table.{AreSumsOf, first_word};
+ghost use Rattle.vp_hold.specs.Numbers.{by_line};
 ghost use Rattle.vp_wild.specs.Payment.{pay};
 
-use crate::HoldMeans;
+use crate::{HoldMeans, number_means};
 use std::sync::ledger::Ledger;
 use vp_pay::PayTable;
-use vp_sets::{choose, next_set};
-use vp_wild::{KeptPayments, Steps};
+use vp_wild::{Steps, paid};
 
 /// The means of the payments of all hands of the deck, made in `words`. One step of the counter for each hand.
 pub(crate) fn payment_means<'a, L: Ledger>(
@@ -27,46 +25,19 @@ pub(crate) fn payment_means<'a, L: Ledger>(
     ensures sums { AreSumsOf table.now.deck (pay table.now coin) result }
     ensures steps { steps.new ≡ steps.old + choose table.now.deck 5 }
 {
-    let hands = choose(table.deck, 5) as usize;
-    let first = words.len() - hands;
-    write_payments(table, coin, &mut words[first..], steps);
-    HoldMeans::fill(table.deck, words)
+    number_means(table, &payments_of(table, coin), words, steps)
 }
 
-/// Writes the payment of each set of five cards of the deck at the set's index. One step of the counter for each.
-fn write_payments<L: Ledger>(table: &PayTable, coin: u8, numbers: &mut [u64], steps: &mut Steps<L>)
-    requires bet { IsBet table.now coin }
-    requires long { length numbers.old ≡ choose table.now.deck 5 }
-    ensures payments { numbers.new ≡ hand_numbers table.now.deck (pay table.now coin) }
-    ensures steps { steps.new ≡ steps.old + choose table.now.deck 5 }
+/// What each pay line pays for a bet, and none.
+fn payments_of(table: &PayTable, coin: u8) -> [u64; 33]
+    requires some { 1 ≤ coin }
+    requires most { coin ≤ 5 }
+    ensures bounded { All (λ x. x ≤ 250000000000) result }
+    ensures paid { (hand : List ℕ) → by_line table.now result hand ≡ pay table.now coin hand }
 {
-    let mut kept = KeptPayments::new(table, coin);
-    let mut upper = [0, 1, 2, 3];
-    let mut first = 0;
-    for _ in 0..choose(table.deck, 4) {
-        let end = first + upper[0] as usize;
-        write_run(&mut kept, &upper, &mut numbers[first..end], steps);
-        first = end;
-        next_set(table.deck, &mut upper);
+    let mut pays = [0; 33];
+    for place in 0..table.lines.len() {
+        pays[place] = u64::from(paid(table, coin, Some(place as u8)));
     }
-}
-
-/// Writes the payments of the sets that have the upper four cards and one below them, by rising lowest card.
-fn write_run<L: Ledger>(
-    kept: &mut KeptPayments,
-    upper: &[u8; 4],
-    numbers: &mut [u64],
-    steps: &mut Steps<L>,
-)
-    requires four { length upper.now ≡ 4 }
-    requires set { IsSet 54 upper.now }
-    requires long { length numbers.old ≡ slice_index upper.now 0 }
-    ensures payments { numbers.new ≡ map (pay kept.old.table kept.old.coin) (run upper.now) }
-    ensures same { kept.new ≡ kept.old }
-    ensures steps { steps.new ≡ steps.old + slice_index upper.now 0 }
-{
-    let [b, c, d, e] = *upper;
-    for low in 0..b {
-        numbers[low as usize] = u64::from(kept.pay(&[low, b, c, d, e], steps));
-    }
+    pays
 }

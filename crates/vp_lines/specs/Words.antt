@@ -4,6 +4,7 @@ use Rattle.std.specs.Borrow.{Bor}
 use Rattle.std.specs.Fmt.{decimal}
 use Rattle.std.specs.List.{sum_by, AllByRecursion}
 use Rattle.vp_card.specs.Texts.{card_text, rank_set_text}
+use Rattle.vp_text.specs.Written.{fraction}
 use Rattle.vp_lines.specs.declared.words.Word.{Word}
 use Rattle.vp_lines.specs.declared.words.Word.TheVariants.{Nothing, Text, Number, Numbers, Fraction, Ranks, Cards, Hand}
 
@@ -13,7 +14,7 @@ words_of Nothing = []
 words_of (Text text) = text.now ∷ []
 words_of (Number n) = decimal n ∷ []
 words_of (Numbers ns) = map decimal ns.now
-words_of (Fraction over under) = decimal over ∷ codes "/" ∷ decimal under ∷ []
+words_of (Fraction over under) = fraction over under
 words_of (Ranks set) = rank_set_text set.now ∷ []
 words_of (Cards cards) = map card_text cards.now
 words_of (Hand hand) = map card_text hand.now

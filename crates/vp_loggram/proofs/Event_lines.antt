@@ -1,9 +1,9 @@
 -- The words of a game that were put into a line are the line that a log has.
-use Rattle.std.proofs.Common.{◌≡◌, ◌++◌, ◌∷◌, [], List, arith}
+use Rattle.std.proofs.Common.{◌≡◌, ◌++◌, ◌∷◌, [], List, ℕ, arith}
 use Rattle.std.specs.Prelude.{codes}
 use Rattle.std.specs.Fmt.{decimal}
 use Rattle.vp_text.specs.Lines.{Word}
-use Rattle.vp_text.specs.Written.{with_words, line_of}
+use Rattle.vp_text.specs.Written.{with_word, with_words, line_of}
 use Rattle.vp_text.proofs.WithWords.{line_bytes}
 use Rattle.vp_loggram.specs.Spelling.{event_words, key_cards, key_number}
 use Rattle.vp_loggram.specs.declared.event.Event.{Event}
@@ -17,3 +17,7 @@ words_behind e =
 pub event_line : (e : Event) → with_words [] (event_words e) ++ 10 ∷ [] ≡ line_of (event_words e)
 unfolding event_words
 event_line e = line_bytes (codes "game") (words_behind e) (omega arith)
+
+-- the words of the first line are its bytes
+pub first_line : (start : ℕ) → with_word (with_word [] (codes "log")) (decimal start) ++ 10 ∷ [] ≡ line_of (key_number (codes "log") start)
+first_line start = line_bytes (codes "log") (decimal start ∷ []) (omega arith)

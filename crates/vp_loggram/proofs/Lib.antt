@@ -3,3 +3,4 @@ pub mod Few_events
 pub mod Games_grammar
 pub mod Log_laws
 pub mod Logs_grammar
+pub mod Next_games

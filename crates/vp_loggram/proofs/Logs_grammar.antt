@@ -1,25 +1,23 @@
 -- Logs are read exactly: each from its spelling, and from no other lines.
 use Rattle.std.proofs.Common.{◌≡◌, ℕ, ◌≤◌, List, [], ◌∷◌, ◌++◌, refl, sym, ap, ◌∙◌, arith}
-use Rattle.std.specs.Prelude.{Result, Ok, Err, IfOk, IfErr, codes}
+use Rattle.std.specs.Prelude.{Result, Ok, Err, codes}
 use Rattle.std.specs.Fmt.{decimal}
 use Rattle.std.specs.List.{AllByRecursion}
 use Rattle.vp_card.specs.Cards.{IsDeck}
 use Rattle.vp_text.specs.Lines.{Feed}
-use Rattle.vp_text.specs.Sections.{Starts, Refuses}
 use Rattle.vp_text.specs.ExactReaders.{Exact, Keeps, AreClosed, closed_text}
 use Rattle.vp_text.specs.Reading.{◌>>=◌, both, Gives}
 use Rattle.vp_text.specs.Streams.{always, any_behind, front_items, skipped}
 use Rattle.vp_text.specs.declared.refused.Refused.{Refused}
 use Rattle.vp_text.proofs.Joined.{Exact-both, Exact-mapped}
 use Rattle.vp_text.proofs.Numbers.{number_within_exact}
-use Rattle.vp_text.proofs.Pieces.{Exact-keyed}
+use Rattle.vp_text.proofs.Sequences.{Exact-keyed}
 use Rattle.vp_text.proofs.Rows.{Exact-closed}
 use Rattle.vp_text.proofs.Sections.{Exact-line}
-use Rattle.vp_text.proofs.Spelled.{ok_is, ok_err}
 use Rattle.vp_text.proofs.Streams.{skipped_is}
 use Rattle.vp_loggram.specs.Logs.{IsEvent, IsLog, LogValue}
 use Rattle.vp_loggram.specs.Reading.{event_of}
-use Rattle.vp_loggram.specs.Sections.{start_line, games_at, log_from, log_at, events_in_front, games_skipped, log_read}
+use Rattle.vp_loggram.specs.Sections.{start_line, games_at, log_from, log_at, events_in_front, games_skipped, log_opened, log_read}
 use Rattle.vp_loggram.specs.Spelling.{event_words, log_text}
 use Rattle.vp_loggram.specs.declared.event.Event.{Event}
 use Rattle.vp_loggram.proofs.Games_grammar.{Exact-event, not_end, end_no_event}
@@ -68,9 +66,17 @@ Exact-log n deck =
 abbrev LogRead : Type 0
 LogRead = Result (LogValue × Feed) ℕ
 
+-- a log whose first line is read
+abbrev opened_from : ℕ → ℕ × Feed → LogRead
+opened_from n a = Ok (record { start = a.0; events = front_items (event_of n) a.1.lines }, a.1)
+
+-- the games behind it are skipped
+abbrev skipped_behind : ℕ → LogValue × Feed → LogRead
+skipped_behind n p = skipped (codes "end") (event_of n) p.1 >>= λ rest. Ok (p.0, rest.1)
+
 -- the games behind the start are skipped, and read again from there
 abbrev skipped_from : ℕ → ℕ × Feed → LogRead
-skipped_from n a = skipped (codes "end") (event_of n) a.1 >>= λ rest. Ok (record { start = a.0; events = front_items (event_of n) a.1.lines }, rest.1)
+skipped_from n a = skipped_behind n (record { start = a.0; events = front_items (event_of n) a.1.lines }, a.1)
 
 -- the games behind the start are read
 abbrev games_from : ℕ → ℕ × Feed → Result ((ℕ × List Event) × Feed) ℕ
@@ -81,39 +87,17 @@ seen_log p = Ok (log_from p.0, p.1)
 
 -- a log whose games are skipped and read again is the log that is read
 pub log_read-is : (n : ℕ) (feed : Feed) → log_read n feed ≡ log_at n feed
-unfolding log_at log_read events_in_front games_skipped
+unfolding log_at log_opened log_read events_in_front games_skipped
 log_read-is n feed = by_start (start_line feed)
   where
     by_games : (a : ℕ × Feed) (r : Result (Unit {0} × Feed) ℕ) → skipped (codes "end") (event_of n) a.1 ≡ r → skipped_from n a ≡ (games_from n a >>= seen_log)
     by_games a (Ok p) is = rw (skipped_is (codes "end") (event_of n) (end_no_event n) a.1, is) refl
     by_games a (Err e) is = rw (skipped_is (codes "end") (event_of n) (end_no_event n) a.1, is) refl
 
-    by_start : (r : Result (ℕ × Feed) ℕ) → (r >>= skipped_from n) ≡ ((r >>= games_from n) >>= seen_log)
+    by_start : (r : Result (ℕ × Feed) ℕ) → ((r >>= opened_from n) >>= skipped_behind n) ≡ ((r >>= games_from n) >>= seen_log)
     by_start (Err e) = refl
     by_start (Ok a) = by_games a (skipped (codes "end") (event_of n) a.1) refl
 
 pub gives_log : (n : ℕ) (result : Result LogValue Refused) (before left : Feed) → Gives (λ (log : LogValue). log) result left (log_read n before) → Gives (λ (log : LogValue). log) result left (log_at n before)
 gives_log n (Ok log) before left gives = sym (log_read-is n before) ∙ gives
 gives_log n (Err e) before left gives = sym (log_read-is n before) ∙ gives
-
--- ---- what a reader of logs answers
-
-pub found_log : (n : ℕ) → IsDeck n → (result : Result LogValue Refused) (before left : Feed) → Gives (λ (log : LogValue). log) result left (log_at n before)
-    → IfOk result (λ log. IsLog n log × Starts log_text before log left)
-found_log n deck (Ok log) before left gives = (Exact-log n deck).takes before left log gives
-found_log n deck (Err e) before left gives = tt
-
-pub refused_log : (n : ℕ) → IsDeck n → (result : Result LogValue Refused) (before left : Feed) → Gives (λ (log : LogValue). log) result left (log_at n before)
-    → IfErr result (λ e. Refuses log_text (IsLog n) before e.line)
-refused_log n deck (Ok log) before left gives = tt
-refused_log n deck (Err e) before left gives = (Exact-log n deck).stops before e.line gives
-
-pub only_log : (n : ℕ) → IsDeck n → (result : Result LogValue Refused) (before left : Feed) → Gives (λ (log : LogValue). log) result left (log_at n before)
-    → (log : LogValue) (rest : Feed) → IsLog n log → Starts log_text before log rest → (result ≡ Ok log) × (left ≡ rest)
-only_log n deck (Ok other) before left gives log rest is starts =
-    let p : LogValue × Feed = (other, left)
-    in let q : LogValue × Feed = (log, rest)
-    in let same : p ≡ q = ok_is p q (sym gives ∙ (Exact-log n deck).again before rest log is starts)
-    in (ap (λ (r : LogValue × Feed). Ok r.0) same, ap (λ (r : LogValue × Feed). r.1) same)
-only_log n deck (Err e) before left gives log rest is starts =
-    absurd (ok_err (log_at n before) (log, rest) e.line ((Exact-log n deck).again before rest log is starts) gives)

@@ -5,10 +5,12 @@ mod event;
 mod events;
 mod laws;
 mod log;
+mod section;
 mod words;
 mod writing;
 
 pub use event::Event;
 pub use events::Events;
 pub use laws::{log_spellings_differ, written_logs_are_read};
-pub use log::Log;
+pub use log::{Log, next_game};
+pub use writing::{append_end, append_start};

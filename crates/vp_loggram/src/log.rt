@@ -1,19 +1,18 @@
 //! A log, which borrows its text.
 
-ghost use Rattle.std.specs.Prelude.{◌≡◌, ◌≤◌, length, is_some, Ok, IfOk, IfErr};
+ghost use Rattle.std.specs.Prelude.{◌≡◌, ◌≤◌, length, Ok, IfOk, IfErr};
 ghost use Rattle.vp_card.specs.Cards.{IsDeck};
 ghost use Rattle.vp_text.specs.Lines.{Feed};
 ghost use Rattle.vp_text.specs.Reading.{Gives};
 ghost use Rattle.vp_text.specs.Sections.{Starts, Refuses, Leaves, IsAt, StandsBehind};
 ghost use Rattle.vp_loggram.specs.Logs.{IsLog, LogValue};
-ghost use Rattle.vp_loggram.specs.Reading.{event_of};
-ghost use Rattle.vp_loggram.specs.Sections.{events_in_front, games_skipped, log_at, log_read, start_line};
+ghost use Rattle.vp_loggram.specs.Sections.{GivesGame, events_in_front, games_skipped, log_at, log_opened, log_read, start_line};
 ghost use Rattle.vp_loggram.specs.Spelling.{log_text};
 
-use crate::Events;
 use crate::words::event_of;
+use crate::{Event, Events};
 use std::marker::Model;
-use vp_text::{Lines, Refused, Words, keyed_number};
+use vp_text::{Lines, Refused, keyed_number};
 
 /// A log of games over its text: the credits at its start, and its games, which are read again from the text.
 #[derive(Drop)]
@@ -47,46 +46,61 @@ fn start_line(lines: &mut Lines) -> Result<u64, Refused>
     keyed_number(&mut words, b"log", 0, 1000000000000).ok_or(Refused { line })
 }
 
-fn is_game(words: &mut Words, deck: u8) -> bool
-    ensures { result ≡ is_some (event_of deck words.old.words) }
+/// Reads the next line of a log behind its first one: a game, or none where it is `end`.
+#[tactic(auto, using(vp_text::proofs::Standing::leaves_all, vp_text::proofs::Standing::leaves_line, crate::proofs::Next_games::has_game, crate::proofs::Next_games::has_end, crate::proofs::Next_games::has_neither, crate::proofs::Next_games::has_nothing))]
+pub fn next_game(lines: &mut Lines, deck: u8) -> Result<Option<Event>, Refused>
+    // The game stands in front of the games that are left; where there is none, the log ends here.
+    ensures read { GivesGame deck lines.old lines.new result }
+    ensures leaves { Leaves lines.old lines.new }
+    ensures at { IfErr result (λ e. IsAt e.line lines.new) }
 {
-    event_of(words, deck).is_some()
+    let mut words = lines.next_wanted()?;
+    let line = words.line();
+    if words.only_is(b"end") {
+        return Ok(None);
+    }
+    match event_of(&mut words, deck) {
+        Some(event) => Ok(Some(event)),
+        None => Err(Refused { line }),
+    }
 }
 
 /// Passes the games up to `end`.
-#[tactic(auto, unfolding(crate::specs::Sections::games_skipped))]
 fn skip_games(lines: &mut Lines, deck: u8) -> Result<(), Refused>
     ensures read { Gives (λ u. tt) result lines.new (games_skipped deck lines.old) }
     ensures leaves { Leaves lines.old lines.new }
     ensures at { IfErr result (λ e. IsAt e.line lines.new) }
 {
-    while let Some(mut words) = lines.next() {
-        let line = words.line();
-        if words.only_is(b"end") {
-            return Ok(());
-        }
-        if !is_game(&mut words, deck) {
-            return Err(Refused { line });
-        }
-    }
-    Err(Refused { line: lines.past() })
+    'games: while let Some(_) = next_game(lines, deck)? {}
+    Ok(())
 }
 
 impl<'a> Log<'a> {
+    /// Reads the first line of a log, whose games are those in front of the lines that are left. The log is read once they
+    /// are passed, up to its `end`.
+    #[tactic(auto, unfolding(crate::specs::Sections::log_opened))]
+    pub fn open(lines: &mut Lines<'a>, deck: u8) -> Result<Log<'a>, Refused>
+        ensures read { Gives (λ log. log) result lines.new (log_opened deck lines.old) }
+        ensures leaves { Leaves lines.old lines.new }
+        ensures at { IfErr result (λ e. IsAt e.line lines.new) }
+    {
+        let start = start_line(lines)?;
+        Ok(Log {
+            start,
+            lines: lines.again(),
+            deck,
+        })
+    }
+
     #[tactic(auto, unfolding(crate::specs::Sections::log_read))]
     fn log_read(lines: &mut Lines<'a>, deck: u8) -> Result<Log<'a>, Refused>
         ensures read { Gives (λ log. log) result lines.new (log_read deck lines.old) }
         ensures leaves { Leaves lines.old lines.new }
         ensures at { IfErr result (λ e. IsAt e.line lines.new) }
     {
-        let start = start_line(lines)?;
-        let rest = lines.again();
+        let log = Log::open(lines, deck)?;
         skip_games(lines, deck)?;
-        Ok(Log {
-            start,
-            lines: rest,
-            deck,
-        })
+        Ok(log)
     }
 
     /// Reads one log section with cards of a deck of so many, up to its `end`, and leaves the lines behind it.

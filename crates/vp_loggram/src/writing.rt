@@ -1,6 +1,6 @@
 //! Games, written line by line.
 
-ghost use Rattle.std.specs.Prelude.{◌≡◌, ◌+◌, ◌<◌, ◌≤◌, [], ◌∷◌, ◌++◌, length, OnOk, OnErr};
+ghost use Rattle.std.specs.Prelude.{◌≡◌, ◌+◌, ◌<◌, ◌≤◌, [], ◌∷◌, ◌++◌, codes, length, OnOk, OnErr};
 ghost use Rattle.vp_text.specs.Written.{line_of, with_words};
 ghost use Rattle.vp_loggram.specs.Spelling.{event_words, key_cards, key_number};
 
@@ -61,4 +61,24 @@ impl Event {
         add_event(&mut out, self);
         text.extend_from_slice(out.line())
     }
+}
+
+/// Appends the first line of a log, with its line feed. Where memory is wanted and there is none, the text stays as it was.
+#[tactic(auto, using(crate::proofs::Event_lines::first_line, vp_text::proofs::Room::length_with_word, vp_text::proofs::Room::length_decimal))]
+pub fn append_start(text: &mut Vec<u8>, start: u64) -> Result<(), AllocError>
+    ensures line { OnOk result (text.new.items ≡ text.old.items ++ line_of (key_number (codes "log") start)) }
+    ensures kept { OnErr result (text.new.items ≡ text.old.items) }
+{
+    let mut out = Out::new();
+    out.word(b"log");
+    out.number(start as u128);
+    text.extend_from_slice(out.line())
+}
+
+/// Appends the last line of a log, with its line feed. Where memory is wanted and there is none, the text stays as it was.
+pub fn append_end(text: &mut Vec<u8>) -> Result<(), AllocError>
+    ensures line { OnOk result (text.new.items ≡ text.old.items ++ line_of (codes "end" ∷ [])) }
+    ensures kept { OnErr result (text.new.items ≡ text.old.items) }
+{
+    text.extend_from_slice(b"end\n")
 }

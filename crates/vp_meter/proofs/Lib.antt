@@ -16,3 +16,5 @@ pub mod MeterSoFar
 pub mod MeterText
 pub mod Exact
 pub mod DealSums
+pub mod PieceTells
+pub mod MeterTells

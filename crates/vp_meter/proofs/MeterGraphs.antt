@@ -87,7 +87,7 @@ every : {A : Type 0} (P : Graph → Type 0) (graph : A → Graph) (xs : List A) 
 every P graph [] h = All-nil P
 every P graph (x ∷ xs) h = All-cons P (graph x) (map graph xs) (h x) (every P graph xs h)
 
-first_from : (m : Metering) (lo hi : ℕ) (cards : List ℕ) → lo ≤ (graph_of m lo hi cards).first.from
+pub first_from : (m : Metering) (lo hi : ℕ) (cards : List ℕ) → lo ≤ (graph_of m lo hi cards).first.from
 unfolding graph_of
 first_from m lo hi cards = omega arith
 

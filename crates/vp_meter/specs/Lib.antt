@@ -6,3 +6,5 @@ pub mod Segments
 pub mod LinesOfHolds
 pub mod Spelling
 pub mod Laws
+pub mod Meter
+pub mod MeterTells

@@ -1,9 +1,10 @@
 -- A pay table with another payment in one line, and what a hand is paid by that line and by the others. So a progressive machine's pay
 -- table is stated: one payment, the meter, grows, and all else stays as it is.
-use Rattle.std.specs.Prelude.{ℕ, zero, suc, ◌-◌, Bool, false, if◌then◌else◌, ◌==◌, ◌<◌, List, [], ◌∷◌, length, map, slice_index_or, Option, None, Some, slice_set}
+use Rattle.std.specs.Prelude.{ℕ, zero, suc, ◌-◌, Bool, false, if◌then◌else◌, ◌==◌, ◌<◌, List, [], ◌∷◌, length, Option, None, Some, slice_set}
 use Rattle.vp_pay.specs.declared.table.PayLine.{PayLine}
 use Rattle.vp_pay.specs.declared.table.PayTable.{PayTable}
 use Rattle.vp_pay.specs.Bets.{IsBet}
+use Rattle.vp_pay.specs.LineNames.{name_at}
 use Rattle.vp_wild.specs.Payment.{line, pay}
 
 -- a list whose member at a place is changed
@@ -40,7 +41,7 @@ pub record Metering : Type 0 where
 
 -- the name of that line
 abbrev pub line_name : Metering → List ℕ
-line_name m = slice_index_or (map (λ line. line.name) m.table.lines.items) m.place []
+line_name m = name_at m.table m.place
 
 -- the table has the bet and the line
 pub record IsMetering (m : Metering) : Type 0 where

@@ -3,7 +3,9 @@
 #![tactic(auto)]
 
 mod hold_lines;
+mod job;
 mod laws;
+mod meter_laws;
 mod metered_bet;
 mod piece;
 mod pieces;
@@ -12,7 +14,9 @@ mod segment;
 mod tallies;
 mod writing;
 
+pub use job::MeterJob;
 pub use laws::{meters_tell_every_deal, pieces_sum_all_deals, values_are_straight_lines};
+pub use meter_laws::{meter_inputs_are_read, meters_are_told};
 pub use metered_bet::Metered;
 pub use report::meter;
 pub use segment::{Segment, segments};

@@ -5,3 +5,5 @@ pub mod DealMoments
 pub mod DeckSums
 pub mod ByClasses
 pub mod Room
+pub mod MultiInputs
+pub mod MultiTells

@@ -1,10 +1,9 @@
 -- Deal lines are read exactly.
-use Rattle.std.proofs.Common.{◌≡◌, ℕ, ◌≤◌, ◌<◌, true, ◌&&◌, nat_lt, List, [], ◌∷◌, ◌++◌, map, length, refl, ap, sym, ◌∙◌, arith, Some, None, inl, inr, ◌⊎◌, subst}
+use Rattle.std.proofs.Common.{◌≡◌, ℕ, ◌≤◌, ◌<◌, true, nat_lt, List, [], ◌∷◌, ◌++◌, map, refl, ap, sym, ◌∙◌, arith, Some, None, inl, inr, ◌⊎◌, subst}
 use Rattle.std.specs.Prelude.{Option, option_map, Result, Ok, Err, IfOk, IfErr, IfSome, codes}
 use Rattle.std.specs.List.{AllByRecursion}
 use Rattle.std.proofs.lemmas.Bool.{lt-ltb}
 use Rattle.std.proofs.lemmas.Bool.Decides.{nat_tests}
-use Rattle.std.proofs.lemmas.List.{append-nil}
 use Rattle.vp_card.specs.Cards.{IsDeck, in_deck, all_differ, in_order}
 use Rattle.vp_card.specs.Texts.{card_text}
 use Rattle.vp_card.specs.Reading.{card_of}
@@ -16,13 +15,15 @@ use Rattle.vp_text.specs.Sections.{Starts, Refuses}
 use Rattle.vp_text.specs.ExactReaders.{Exact, ExactText}
 use Rattle.vp_text.specs.declared.refused.Refused.{Refused}
 use Rattle.vp_text.proofs.Sections.{Exact-line}
-use Rattle.vp_text.proofs.Spelled.{ok_is, ok_err, bind_ok, bind_err}
+use Rattle.vp_text.proofs.Answered.{only_read}
+use Rattle.vp_text.proofs.Spelled.{ok_is, bind_ok, bind_err}
 use Rattle.vp_pay.specs.Deal.{AreDealtCards, AreFiveCards, IsCard, IsDealt, TakesExactly}
 use Rattle.vp_text.specs.Pieces.{AreMany, ExactPiece, Piece, Takes, one_word, so_many}
 use Rattle.vp_pay.specs.Spelling.{deal_text}
-use Rattle.vp_pay.specs.Reading.{deal_of, hand_of}
+use Rattle.vp_pay.specs.Reading.{deal_of, hand_of, is_dealt_from}
 use Rattle.vp_pay.specs.Sections.{deal_at, hand_at}
-use Rattle.vp_text.proofs.Pieces.{both_true, bound, at_end, chosen, no_value, same_pair, so, took, Exact-key_word, Exact-one_word, Exact-so_many}
+use Rattle.vp_text.proofs.Pieces.{both_true, same_pair, Exact-one_word, Exact-so_many}
+use Rattle.vp_text.proofs.Sequences.{Exact-after, Exact-all_of, Exact-passing, Exact-also}
 
 -- the text of a card is read as this card, and nothing else is read
 pub Exact-card : ExactText card_text IsCard card_of
@@ -76,30 +77,16 @@ five_exactly before left result takes =
 
 -- ---- a deal
 
-deal_taken : (n : ℕ) (words : List Word) (cards : List ℕ) → deal_of n words ≡ Some cards → AreDealtCards n cards × (codes "deal" ∷ map card_text cards ≡ words)
-unfolding deal_of
-deal_taken n words cards read =
-    let key = bound _ _ _ read
-    in let many = bound _ _ _ key.then
-    in let five = bound _ _ _ many.then
-    in let end = at_end _ _ _ five.first
-    in let k = took (Exact-key_word (codes "deal")) words key.value key.first
-    in let m = took (Exact-so_many Exact-card 5) key.value.1 many.value many.first
-    in let words_are : codes "deal" ∷ map card_text many.value.0 ≡ words =
-    sym (k.front ∙ ap (λ (ws : List Word). codes "deal" ∷ ws) (m.front ∙ (ap (λ (ws : List Word). map card_text many.value.0 ++ ws) end.0 ∙ append-nil _)))
-    in chosen (λ cs. AreDealtCards n cs × (codes "deal" ∷ map card_text cs ≡ words)) (in_deck n five.value && all_differ five.value) (Some five.value) None cards five.then
-    (λ is e.
-    let parts = both_true (in_deck n five.value) (all_differ five.value) is
-    in so (λ cs. AreDealtCards n cs × (codes "deal" ∷ map card_text cs ≡ words)) five.value cards e
-    (record { five = ap length (sym end.1) ∙ m.valid.count; below = parts.0; differ = parts.1 }, ap (λ cs. codes "deal" ∷ map card_text cs) (sym end.1) ∙ words_are))
-    (λ e. absurd (no_value cards e))
+abbrev deal_words : List ℕ → List Word
+deal_words cards = codes "deal" ∷ map card_text cards
 
-deal_again : (n : ℕ) (cards : List ℕ) → IsDeck n → AreDealtCards n cards → deal_of n (codes "deal" ∷ map card_text cards) ≡ Some cards
+Exact-deal_words : (n : ℕ) → IsDeck n → ExactText deal_words (AreDealtCards n) (deal_of n)
 unfolding deal_of
-deal_again n cards deck is =
-    let many : so_many card_of 5 (map card_text cards) ≡ Some (cards, []) =
-    ap (so_many card_of 5) (sym (append-nil (map card_text cards))) ∙ (Exact-so_many Exact-card 5).again [] cards (record { count = is.five; all = cards_below n cards deck.1 is.below }) refl
-    in rw (many, is.below, is.differ)
+Exact-deal_words n deck =
+    Exact-also (Exact-passing (Exact-all_of (Exact-after (codes "deal") (Exact-so_many Exact-card 5)) refl) (is_dealt_from n))
+    deal_words (λ cards. refl)
+    (λ cards is. let parts = both_true (in_deck n cards) (all_differ cards) is.1 in record { five = is.0.count; below = parts.0; differ = parts.1 })
+    (λ cards is. (record { count = is.five; all = cards_below n cards deck.1 is.below }, rw (is.below) is.differ))
 
 first_cards : (n : ℕ) → 5 ≤ n → AreDealtCards n (0 ∷ 1 ∷ 2 ∷ 3 ∷ 4 ∷ [])
 first_cards n least = record {
@@ -111,9 +98,7 @@ first_cards n least = record {
 pub Exact-deal : (n : ℕ) → IsDeck n → Exact deal_text (AreDealtCards n) (deal_at n)
 unfolding deal_text deal_at
 Exact-deal n deck =
-    Exact-line (λ (cards : List ℕ). codes "deal" ∷ map card_text cards) (AreDealtCards n) (deal_of n)
-    (record { takes = λ words cards read. deal_taken n words cards read; again = λ cards is. deal_again n cards deck is })
-    (0 ∷ 1 ∷ 2 ∷ 3 ∷ 4 ∷ []) (first_cards n (omega (arith, deck.0)))
+    Exact-line deal_words (AreDealtCards n) (deal_of n) (Exact-deal_words n deck) (0 ∷ 1 ∷ 2 ∷ 3 ∷ 4 ∷ []) (first_cards n (omega (arith, deck.0)))
 
 -- ---- the hand of a deal
 
@@ -165,13 +150,4 @@ pub only_deal : (n : ℕ) (result : Result (List ℕ) Refused) (before left : Fe
     → (cards : List ℕ) (rest : Feed) → AreDealtCards n cards → Starts deal_text before cards rest → (result ≡ Ok (in_order cards)) × (left ≡ rest)
 only_deal n result before left deck gives cards rest is starts =
     let read : deal_at n before ≡ Ok (cards, rest) = (Exact-deal n deck).again before rest cards is starts
-    in let hand : hand_at n before ≡ Ok (in_order cards, rest) = hand_at-is n before ∙ (rw read)
-    in same result gives hand
-  where
-    same : (r : Result (List ℕ) Refused) → Gives (λ (h : List ℕ). h) r left (hand_at n before) → hand_at n before ≡ Ok (in_order cards, rest) → (r ≡ Ok (in_order cards)) × (left ≡ rest)
-    same (Ok h) g hand =
-        let p : List ℕ × Feed = (h, left)
-        in let q : List ℕ × Feed = (in_order cards, rest)
-        in let e : p ≡ q = ok_is p q (sym g ∙ hand)
-        in (ap (λ (x : List ℕ × Feed). Ok x.0) e, ap (λ (x : List ℕ × Feed). x.1) e)
-    same (Err d) g hand = absurd (ok_err (hand_at n before) (in_order cards, rest) d.line hand g)
+    in only_read result left (hand_at n before) gives (in_order cards) rest (hand_at-is n before ∙ (rw read))

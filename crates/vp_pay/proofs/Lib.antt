@@ -10,3 +10,4 @@ pub mod Values
 pub mod LineWords
 pub mod Inputs
 pub mod FittingBets
+pub mod ShortTables

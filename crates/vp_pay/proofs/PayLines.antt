@@ -1,10 +1,10 @@
 -- Pay lines: each is read from its words, and from no others.
-use Rattle.std.proofs.Common.{◌≡◌, ℕ, zero, suc, ◌-◌, ◌≤◌, true, nat_le, List, [], ◌∷◌, ◌++◌, map, length, take, drop, replicate, refl, ap, sym, ◌∙◌, arith, Some, length-append, subst}
+use Rattle.std.proofs.Common.{◌≡◌, ℕ, zero, suc, ◌-◌, ◌≤◌, true, nat_le, List, [], ◌∷◌, ◌++◌, map, length, take, drop, replicate, refl, ap, sym, ◌∙◌, arith, Some, length-append}
 use Rattle.std.specs.Prelude.{codes}
 use Rattle.std.specs.Fmt.{decimal}
 use Rattle.std.specs.List.{list_all, AllByRecursion}
 use Rattle.std.proofs.lemmas.Bool.{leb-true, le-leb}
-use Rattle.std.proofs.lemmas.List.{append-nil, length-replicate, length-take-le, take-append-drop}
+use Rattle.std.proofs.lemmas.List.{length-replicate, length-take-le, take-append-drop}
 use Rattle.std.proofs.lemmas.List.Folds.{list_all-append}
 use Rattle.std.proofs.Math.Seq.{take-append_seam, drop-append_seam}
 use Rattle.vp_text.specs.ExactReaders.{ExactText}
@@ -13,10 +13,11 @@ use Rattle.vp_pay.specs.declared.pattern.Qualifier.{Qualifier}
 use Rattle.vp_pay.specs.declared.pattern.Qualifier.TheVariants.{Either, Natural, Wild}
 use Rattle.vp_pay.specs.declared.table.PayLine.{PayLine}
 use Rattle.vp_text.specs.Pieces.{ExactPiece, AreMany}
-use Rattle.vp_pay.specs.Spelling.{pattern_words, qualifier_word, pay_line_words}
-use Rattle.vp_pay.specs.Reading.{pattern_piece, columns_piece, pay_line_of}
+use Rattle.vp_pay.specs.Spelling.{qualifier_word, pay_line_words}
+use Rattle.vp_pay.specs.Reading.{LineParts, line_from, columns_piece, pay_line_of}
 use Rattle.vp_pay.specs.Table.{ArePays, IsPayLine}
-use Rattle.vp_text.proofs.Pieces.{both_true, bound, at_end, so, took, Exact-one_word, Exact-so_many, Exact-key_word}
+use Rattle.vp_text.proofs.Pieces.{both_true, bound, so, took, Exact-one_word, Exact-so_many}
+use Rattle.vp_text.proofs.Sequences.{Exact-before, Exact-then, Exact-after, Exact-all_of, Exact-made, Exact-also}
 use Rattle.vp_pay.proofs.Values.{Exact-name, Exact-payment, Exact-qualifier}
 use Rattle.vp_pay.proofs.Patterns.{Exact-pattern, no_kicker}
 
@@ -79,49 +80,21 @@ Exact-columns coins few = record {
 
 -- ---- a pay line
 
--- the words of a line out of its pieces
-joined : (words w1 w2 w3 w4 w5 : List Word) (l n : Word) (p : List Word) (q : Word) (c : List Word)
-    → words ≡ l ∷ w1 → w1 ≡ n ∷ w2 → w2 ≡ p ++ w3 → w3 ≡ q ∷ w4 → w4 ≡ c ++ w5 → w5 ≡ [] → l ∷ n ∷ p ++ q ∷ c ≡ words
-joined words w1 w2 w3 w4 w5 l n p q c e1 e2 e3 e4 e5 e6 = rw (e1, e2, e3, e4, e5, e6, append-nil c)
-
-line_taken : (coins : ℕ) (words : List Word) (line : PayLine) → coins ≤ 5 → pay_line_of coins words ≡ Some line → IsPayLine coins line × (pay_line_words coins line ≡ words)
-unfolding pay_line_of pay_line_words
-line_taken coins words line few read =
-    let key = bound _ _ _ read
-    in let name = bound _ _ _ key.then
-    in let pattern = bound _ _ _ name.then
-    in let qualifier = bound _ _ _ pattern.then
-    in let pays = bound _ _ _ qualifier.then
-    in let end = at_end _ _ _ pays.then
-    in let k = took (Exact-key_word (codes "line")) words key.value key.first
-    in let n = took (Exact-one_word Exact-name) key.value.1 name.value name.first
-    in let p = took Exact-pattern name.value.1 pattern.value pattern.first
-    in let q = took (Exact-one_word Exact-qualifier) pattern.value.1 qualifier.value qualifier.first
-    in let c = took (Exact-columns coins few) qualifier.value.1 pays.value pays.first
-    in let made : PayLine = record { name = name.value.0; pattern = pattern.value.0; qualifier = qualifier.value.0; pays = pays.value.0 }
-    in let P : PayLine → Type 0 = λ l. IsPayLine coins l × (pay_line_words coins l ≡ words)
-    in subst P end.1 (
-      record { name = n.valid; pattern = p.valid; pays = c.valid },
-      joined words _ _ _ _ _ (codes "line") name.value.0 (pattern_words pattern.value.0) (qualifier_word qualifier.value.0) (map decimal (take coins pays.value.0)) k.front n.front p.front q.front c.front end.0,
-    )
-
 qualifier_no_kicker : (q : Qualifier) (rest : List Word) → no_kicker (qualifier_word q ∷ rest) ≡ true
 qualifier_no_kicker Either rest = refl
 qualifier_no_kicker Natural rest = refl
 qualifier_no_kicker Wild rest = refl
 
-line_again : (coins : ℕ) (line : PayLine) → coins ≤ 5 → IsPayLine coins line → pay_line_of coins (pay_line_words coins line) ≡ Some line
-unfolding pay_line_of pay_line_words
-line_again coins line few is =
-    let pays : columns_piece coins (map decimal (take coins line.pays)) ≡ Some (line.pays, []) =
-    ap (columns_piece coins) (sym (append-nil (map decimal (take coins line.pays)))) ∙ columns_again coins [] line.pays few is.pays
-    in let rest : List Word = qualifier_word line.qualifier ∷ map decimal (take coins line.pays)
-    in let pattern : pattern_piece (pattern_words line.pattern ++ rest) ≡ Some (line.pattern, rest) =
-    Exact-pattern.again rest line.pattern is.pattern (qualifier_no_kicker line.qualifier (map decimal (take coins line.pays)))
-    in rw (Exact-name.again line.name is.name, pattern, Exact-qualifier.again line.qualifier tt, pays)
+abbrev parts_of : PayLine → LineParts
+parts_of line = (line.name, (line.pattern, (line.qualifier, line.pays)))
 
 pub Exact-pay_line : (coins : ℕ) → coins ≤ 5 → ExactText (pay_line_words coins) (IsPayLine coins) (pay_line_of coins)
-Exact-pay_line coins few = record {
-  takes = λ words line read. line_taken coins words line few read;
-  again = λ line is. line_again coins line few is;
-}
+unfolding pay_line_of pay_line_words
+Exact-pay_line coins few =
+    let behind = Exact-then (Exact-one_word Exact-qualifier) (Exact-columns coins few) in
+    let from_pattern = Exact-before Exact-pattern behind (λ b rest valid may. qualifier_no_kicker b.0 (map decimal (take coins b.1) ++ rest)) in
+    let parts = Exact-after (codes "line") (Exact-then (Exact-one_word Exact-name) from_pattern) in
+    Exact-also (Exact-made (Exact-all_of parts refl) line_from parts_of (λ p. refl) (λ line. refl))
+    (pay_line_words coins) (λ line. refl)
+    (λ line is. record { name = is.0; pattern = is.1.0; pays = is.1.1.1 })
+    (λ line is. (is.name, (is.pattern, (tt, is.pays))))

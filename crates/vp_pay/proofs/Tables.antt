@@ -11,10 +11,7 @@ use Rattle.vp_card.specs.Cards.{IsDeck}
 use Rattle.vp_text.specs.Lines.{Word, Feed}
 use Rattle.vp_text.specs.Sections.{Text, Starts, Refuses, both_text, AreBoth}
 use Rattle.vp_text.specs.ExactReaders.{Exact, Keeps, Closes, AreClosed, closed_text, ExactText}
-use Rattle.vp_text.specs.Reading.{Gives}
-use Rattle.vp_text.specs.declared.refused.Refused.{Refused}
 use Rattle.vp_text.proofs.Sections.{Exact-line}
-use Rattle.vp_text.proofs.Spelled.{ok_is, ok_err}
 use Rattle.vp_text.proofs.Joined.{Exact-both, Exact-mapped}
 use Rattle.vp_text.proofs.Rows.{Exact-closed}
 use Rattle.vp_pay.specs.declared.pattern.Pattern.TheVariants.{Royal}
@@ -26,7 +23,8 @@ use Rattle.vp_pay.specs.Spelling.{wild_word, pay_line_words, table_text}
 use Rattle.vp_pay.specs.Reading.{has_name, next_line_of}
 use Rattle.vp_pay.specs.Sections.{name_line, deck_line, wild_line, coins_line, some_lines, pay_lines, Parts, table_of, parts_at, table_at}
 use Rattle.vp_pay.specs.Table.{IsPayLine, IsTable}
-use Rattle.vp_text.proofs.Pieces.{both_true, bound, chosen, no_value, so, Exact-keyed}
+use Rattle.vp_text.proofs.Pieces.{both_true, bound, chosen, no_value, so}
+use Rattle.vp_text.proofs.Sequences.{Exact-keyed}
 use Rattle.vp_pay.proofs.Values.{Exact-name, Exact-deck, Exact-wild, Exact-one_to_five}
 use Rattle.vp_pay.proofs.PayLines.{ArePayments, padded, Exact-pay_line}
 
@@ -254,23 +252,3 @@ Exact-table = Exact-mapped parts_text AreParts parts_at table_text IsTable table
   back_of = λ p is. refl;
   see_of = λ t is. refl;
 })
-
--- ---- what a reader of tables answers
-
-pub found_table : (result : Result PayTable Refused) (before left : Feed) → Gives (λ (t : PayTable). t) result left (table_at before) → IfOk result (λ t. IsTable t × Starts table_text before t left)
-found_table (Ok t) before left gives = Exact-table.takes before left t gives
-found_table (Err e) before left gives = tt
-
-pub refused_table : (result : Result PayTable Refused) (before left : Feed) → Gives (λ (t : PayTable). t) result left (table_at before) → IfErr result (λ e. Refuses table_text IsTable before e.line)
-refused_table (Ok t) before left gives = tt
-refused_table (Err e) before left gives = Exact-table.stops before e.line gives
-
-pub only_table : (result : Result PayTable Refused) (before left : Feed) → Gives (λ (t : PayTable). t) result left (table_at before)
-    → (t : PayTable) (rest : Feed) → IsTable t → Starts table_text before t rest → (result ≡ Ok t) × (left ≡ rest)
-only_table (Ok u) before left gives t rest is starts =
-    let p : PayTable × Feed = (u, left)
-    in let q : PayTable × Feed = (t, rest)
-    in let same : p ≡ q = ok_is p q (sym gives ∙ Exact-table.again before rest t is starts)
-    in (ap (λ (r : PayTable × Feed). Ok r.0) same, ap (λ (r : PayTable × Feed). r.1) same)
-only_table (Err e) before left gives t rest is starts =
-    absurd (ok_err (table_at before) (t, rest) e.line (Exact-table.again before rest t is starts) gives)

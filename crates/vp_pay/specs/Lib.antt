@@ -10,3 +10,4 @@ pub mod Bets
 pub mod Written
 pub mod Inputs
 pub mod Reads
+pub mod LineNames

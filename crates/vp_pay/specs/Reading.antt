@@ -6,7 +6,9 @@ use Rattle.vp_card.specs.Reading.{rank_of, rank_set_of, card_of}
 use Rattle.vp_text.specs.Lines.{Word}
 use Rattle.vp_text.specs.Reading.{next_is}
 use Rattle.vp_text.specs.Numbers.{number_of, number_within}
-use Rattle.vp_text.specs.Pieces.{Piece, ◌>>=◌, one_word, so_many, key_word, ended}
+use Rattle.vp_text.specs.Pieces.{Piece, ◌>>=◌, one_word, so_many, key_word}
+use Rattle.vp_text.specs.Sequences.{◌>>◌, after, all_of}
+use Rattle.vp_text.specs.Streams.{passing}
 use Rattle.vp_pay.specs.Names.{is_name}
 use Rattle.vp_pay.specs.declared.pattern.Pattern.{Pattern}
 use Rattle.vp_pay.specs.declared.pattern.Pattern.TheVariants.{Royal, StraightFlush, FiveKind, Wilds, Quads, FullHouse, Flush, Straight, Trips, TwoPair, Pair}
@@ -113,15 +115,19 @@ columns_piece coins words = do
 
 -- ---- pay lines
 
+-- a name, a pattern, a qualifier and payments
+abbrev pub LineParts : Type 0
+LineParts = Word × (Pattern × (Qualifier × List ℕ))
+
+abbrev pub line_from : LineParts → PayLine
+line_from p = record { name = p.0; pattern = p.1.0; qualifier = p.1.1.0; pays = p.1.1.1 }
+
+abbrev pub line_parts : ℕ → Piece LineParts
+line_parts coins = after (codes "line") (one_word name_of >> pattern_piece >> one_word qualifier_of >> columns_piece coins)
+
 -- a pay line of a table with `coins` bets
 unfoldable pub pay_line_of : ℕ → List Word → Option PayLine
-pay_line_of coins words = do
-  key ← key_word (codes "line") words
-  name ← one_word name_of key.1
-  pattern ← pattern_piece name.1
-  qualifier ← one_word qualifier_of pattern.1
-  pays ← columns_piece coins qualifier.1
-  ended (record { name = name.0; pattern = pattern.0; qualifier = qualifier.0; pays = pays.0 }) pays.1
+pay_line_of coins words = option_map line_from (all_of (line_parts coins) words)
 
 -- a line has the name
 abbrev pub has_name : List PayLine → Word → Bool
@@ -139,16 +145,12 @@ next_line_of coins lines words = do
 -- ---- deals
 
 -- five different cards of the deck
-abbrev pub dealt_from : ℕ → List ℕ → Option (List ℕ)
-dealt_from deck cards = if in_deck deck cards && all_differ cards then Some cards else None
+abbrev pub is_dealt_from : ℕ → List ℕ → Bool
+is_dealt_from deck cards = in_deck deck cards && all_differ cards
 
 -- the cards of a deal line, in the order of dealing
 unfoldable pub deal_of : ℕ → List Word → Option (List ℕ)
-deal_of deck words = do
-  key ← key_word (codes "deal") words
-  cards ← so_many card_of 5 key.1
-  five ← ended cards.0 cards.1
-  dealt_from deck five
+deal_of deck words = passing (is_dealt_from deck) (all_of (after (codes "deal") (so_many card_of 5)) words)
 
 -- the hand of a deal line
 unfoldable pub hand_of : ℕ → List Word → Option (List ℕ)

@@ -3,7 +3,7 @@ use Rattle.std.specs.Prelude.{ℕ, Bool, nat_le, List, length, Option, Some, Non
 use Rattle.vp_text.specs.Lines.{Word, Feed}
 use Rattle.vp_text.specs.ExactReaders.{Reader}
 use Rattle.vp_text.specs.Reading.{one_line, both, mapped, closed, closed_by}
-use Rattle.vp_text.specs.Pieces.{keyed}
+use Rattle.vp_text.specs.Sequences.{keyed}
 use Rattle.vp_pay.specs.Reading.{name_of, deck_of, wild_of, one_to_five, next_line_of, deal_of, hand_of}
 use Rattle.vp_pay.specs.declared.table.PayLine.{PayLine}
 use Rattle.vp_pay.specs.declared.table.PayTable.{PayTable}

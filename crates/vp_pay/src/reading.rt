@@ -4,7 +4,7 @@ ghost use Rattle.std.specs.Prelude.{◌≡◌, ◌<◌, ◌≤◌, codes, Some, 
 ghost use Rattle.vp_text.specs.Reading.{Gives};
 ghost use Rattle.vp_text.specs.Lines.{Feed, feed_of};
 ghost use Rattle.vp_text.specs.Sections.{Starts, Refuses, Leaves, IsAt, StandsBehind};
-ghost use Rattle.vp_text.specs.Pieces.{keyed};
+ghost use Rattle.vp_text.specs.Sequences.{keyed};
 ghost use Rattle.vp_pay.specs.Reading.{name_of, deck_of, wild_of, one_to_five, next_line_of, has_name};
 ghost use Rattle.vp_pay.specs.Sections.{name_line, deck_line, wild_line, coins_line, pay_lines, table_at, value_of};
 ghost use Rattle.vp_pay.specs.Spelling.{table_text};

@@ -7,3 +7,6 @@ pub mod Runs
 pub mod SoFar
 pub mod Quiet
 pub mod Telling
+pub mod ReplayWords
+pub mod ReplayTells
+pub mod LogFiles

@@ -4,3 +4,5 @@ pub mod Columns
 pub mod Costs
 pub mod Summaries
 pub mod Adding
+pub mod Replay
+pub mod ReplayTells

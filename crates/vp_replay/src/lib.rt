@@ -4,6 +4,7 @@
 mod breaks;
 mod costs;
 mod games;
+mod job;
 mod laws;
 mod replaying;
 mod rule;
@@ -13,7 +14,11 @@ mod summary;
 pub use breaks::lawful;
 pub use costs::{cost, cost_at};
 pub use games::Games;
-pub use laws::{costs_are_of_the_held_cards, lawful_logs_keep_the_laws};
+pub use job::{ReplayJob, first_break, stop_of};
+pub use laws::{
+    costs_are_of_the_held_cards, lawful_logs_keep_the_laws, replay_inputs_are_read,
+    replays_tell_costs,
+};
 pub use replaying::{put_replay, replay, summary_at};
 pub use rule::{Broken, LogRule};
 pub use summary::{Summary, put_summary};

@@ -1,4 +1,3 @@
-pub mod Answered
 pub mod AskedMasks
 pub mod HeldRight
 pub mod Inputs

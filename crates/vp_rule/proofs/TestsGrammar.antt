@@ -31,9 +31,6 @@ use Rattle.vp_rule.specs.declared.rule.Test.TheVariants.{Hold, Wilds, Suited, Mi
 Exact-five : ExactText decimal (λ n. (0 ≤ n) × (n ≤ 5)) (digit 5)
 Exact-five = number_within_exact 0 5 (omega arith)
 
-Exact-ten : ExactText decimal (λ n. (0 ≤ n) × (n ≤ 10)) (digit 10)
-Exact-ten = number_within_exact 0 10 (omega arith)
-
 and_none : (b : Bool) → (b && false) ≡ false
 and_none true = refl
 and_none false = refl

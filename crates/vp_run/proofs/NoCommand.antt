@@ -1,73 +1,70 @@
--- Words that are no command have one answer, whatever the input; and a command has the answer of its own.
-use Rattle.std.proofs.Common.{◌≡◌, ◌==◌, ℕ, Bool, if◌then◌else◌, List, true, false, ◌≢◌, refl, Option, Some, None, Result, Ok, Err, sym, ap}
+-- Words that are no command have one answer, whatever the input; words that are a task have the answer of that task.
+use Rattle.std.proofs.Common.{◌≡◌, ◌≢◌, ℕ, ◌<◌, List, [], ◌++◌, length, true, false, refl, Option, Some, None, Result, Ok, Err, sym, ap, ◌∙◌, subst, arith, length-append}
 use Rattle.std.specs.Prelude.{is_some}
-use Rattle.vp_answer.specs.Answers.{answer_read}
-use Rattle.vp_answer.specs.declared.status.Status.TheVariants.{Done, Finding, Usage}
+use Rattle.vp_answer.specs.Answers.{Answer, answer_of, answer_read, done}
+use Rattle.vp_answer.specs.Jobs.{Due, DueOf, job_answer}
+use Rattle.vp_answer.specs.declared.status.Status.TheVariants.{Usage}
 use Rattle.vp_answer.specs.declared.stop.Stop.{Stop}
-use Rattle.vp_answer.specs.declared.stop.Stop.TheVariants.{Finding as Found, Record as RecordRefusal, Refused as Refusal}
-use Rattle.vp_run.specs.Answer.{answer, answer_to, is_command, job_answer, job_of, job_status, tables_answer, usage}
+use Rattle.vp_answer.specs.declared.work.Job.{Job}
+use Rattle.vp_answer.specs.declared.work.Job.TheVariants.{Lent, Heap}
+use Rattle.vp_answer.proofs.SomeAnswers.{no_usage, some_text}
 use Rattle.vp_command.specs.Commands.{command_of}
 use Rattle.vp_command.specs.declared.command.Command.{Command}
 use Rattle.vp_command.specs.declared.command.Command.TheVariants.{Over, Tables}
-use Rattle.vp_run.specs.declared.job.Job.{Job}
-use Rattle.vp_run.specs.declared.job.Job.TheVariants.{Audit, Certify, Checked, Compile, Cross, Deal, Hits, Meter, Multi, Play, Replay, Sessions}
-use Rattle.vp_run.specs.Sessions.{Mixed, by_record, sessions_answer, status_by, unlawful}
-use Rattle.vp_csv.specs.Rules.{refused_record}
-use Rattle.vp_csv.specs.Sessions.{sessions_of}
+use Rattle.vp_command.specs.declared.command.Task.{Task}
+use Rattle.vp_pay.specs.Spelling.{table_text}
+use Rattle.vp_run.specs.Answer.{AnswersAreOfTasks, UsageIsForNoCommand, answer, answer_to, built_in_text, heap_due, is_command, job_of, lent_due, tables_answer, task_answer, usage}
+use Rattle.vp_run.specs.SomeText.{heap_some, lent_some}
+use Rattle.vp_run.specs.declared.job.HeapJob.{HeapJob}
+use Rattle.vp_run.specs.declared.job.LentJob.{LentJob}
 
 no_answer : (command : Option Command) (bytes : List ℕ) → is_some command ≡ false → answer_to command bytes ≡ usage
 no_answer None bytes none = refl
 no_answer (Some command) bytes none = absurd (cc)
 
--- it is the line on usage
-pub answer_usage : (words : List (List ℕ)) (bytes : List ℕ) → is_command words ≡ false → answer words bytes ≡ usage
-unfolding answer is_command
-answer_usage words bytes none = no_answer (command_of words) bytes none
-
-by_test : (b : Bool) → (if b then Done else Finding) ≢ Usage
-by_test true same = absurd (cc)
-by_test false same = absurd (cc)
-
-found_usage : (count : ℕ) → status_by count ≢ Usage
-found_usage count = by_test (count == 0)
-
-record_usage : (m : Mixed) (o : Option ℕ) → (by_record m o).status ≢ Usage
-record_usage m (Some place) same = absurd (cc)
-record_usage m None same = found_usage (unlawful m.table (sessions_of m.table.deck m.csv)) same
-
-job_usage : (job : Job) → job_status job ≢ Usage
-unfolding sessions_answer
-job_usage (Deal j) same = absurd (cc)
-job_usage (Certify j) same = absurd (cc)
-job_usage (Audit j) same = absurd (cc)
-job_usage (Cross j) same = absurd (cc)
-job_usage (Checked j) same = absurd (cc)
-job_usage (Replay j) same = absurd (cc)
-job_usage (Sessions m) same = record_usage m (refused_record m.table.deck m.csv) same
-job_usage (Meter j) same = absurd (cc)
-job_usage (Multi j) same = absurd (cc)
-job_usage (Hits j) same = absurd (cc)
-job_usage (Play j) same = absurd (cc)
-job_usage (Compile j) same = absurd (cc)
-
-read_usage : (read : Result Job Stop) → (answer_read job_answer read).status ≢ Usage
-read_usage (Ok job) same = job_usage job same
-read_usage (Err (Refusal line)) same = absurd (cc)
-read_usage (Err (RecordRefusal place)) same = absurd (cc)
-read_usage (Err (Found line rule said due)) same = absurd (cc)
-
 command_usage : (command : Option Command) (bytes : List ℕ) → is_some command ≡ true → (answer_to command bytes).status ≢ Usage
 unfolding tables_answer
 command_usage None bytes some = absurd (cc)
-command_usage (Some (Over task)) bytes some = read_usage (job_of task bytes)
+command_usage (Some (Over task)) bytes some = no_usage lent_due heap_due (job_of task bytes)
 command_usage (Some Tables) bytes some = λ same. absurd (cc)
 
--- no command has that status
-pub no_usage : (words : List (List ℕ)) (bytes : List ℕ) → is_command words ≡ true → (answer words bytes).status ≢ Usage
+-- the line on usage is for words that are no command, and for no others
+pub usage_is : UsageIsForNoCommand
 unfolding answer is_command
-no_usage words bytes some = command_usage (command_of words) bytes some
+usage_is = record {
+  no_command = λ words bytes none. no_answer (command_of words) bytes none;
+  command = λ words bytes some. command_usage (command_of words) bytes some;
+}
 
 -- the answer to the words is that of the command that was read from them
-pub answer_as : (words : List (List ℕ)) (command : Option Command) (bytes : List ℕ) → command_of words ≡ command → answer_to command bytes ≡ answer words bytes
+answer_as : (words : List (List ℕ)) (command : Option Command) (bytes : List ℕ) → command_of words ≡ command → answer_to command bytes ≡ answer words bytes
 unfolding answer
 answer_as words command bytes is = ap (λ (c : Option Command). answer_to c bytes) (sym is)
+
+pub of_tasks : AnswersAreOfTasks
+of_tasks words task bytes is = sym (answer_as words (Some (Over task)) bytes is)
+
+-- what holds of the answer of what a task leaves to do holds of the answer to its words
+pub answered : (P : Answer → Type 0) (words : List (List ℕ)) (task : Task) (bytes : List ℕ) (read : Result (Job LentJob HeapJob) Stop)
+    → command_of words ≡ Some (Over task) → job_of task bytes ≡ read → P (answer_read (job_answer lent_due heap_due) read) → P (answer words bytes)
+answered P words task bytes read is left holds =
+    subst P (ap (λ r. answer_read (job_answer lent_due heap_due) r) (sym left) ∙ sym (of_tasks words task bytes is)) holds
+
+-- ---- no answer is empty
+
+front_some : (front back : List ℕ) → 0 < length front → 0 < length (front ++ back)
+front_some front back some = omega (arith, length-append front back)
+
+first_some : 0 < length (built_in_text 0)
+unfolding table_text
+first_some = omega arith
+
+to_some : (command : Option Command) (bytes : List ℕ) → 0 < length (answer_to command bytes).text
+unfolding usage tables_answer
+to_some None bytes = omega arith
+to_some (Some (Over task)) bytes = some_text lent_due heap_due lent_some heap_some (job_of task bytes)
+to_some (Some Tables) bytes = front_some (built_in_text 0) (built_in_text 1 ++ (built_in_text 2 ++ built_in_text 3)) first_some
+
+pub answer_some : (words : List (List ℕ)) (bytes : List ℕ) → 0 < length (answer words bytes).text
+unfolding answer
+answer_some words bytes = to_some (command_of words) bytes

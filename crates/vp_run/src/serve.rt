@@ -1,20 +1,15 @@
-//! The text of an answer, written over an open region of memory.
+//! The text of an answer, written in words of memory that are lent.
 
 ghost use Rattle.std.specs.Prelude.{◌≡◌, ◌≤◌, length, map, true};
 ghost use Rattle.vp_io.specs.Puts.{Puts};
 ghost use Rattle.vp_run.specs.Answer.{answer};
-ghost use Rattle.vp_answer.specs.Asking.{alone_read};
-ghost use Rattle.vp_run.specs.Memory.{in_region, job_alone, region_words};
+ghost use Rattle.vp_run.specs.Memory.{in_region, region_words};
 
-use crate::command::{Command, command_of};
-use crate::job::{Job, job_of};
-use crate::tables::put_tables;
-use vp_answer::{Stop, put_read, words_of_read};
-use vp_io::{Sink, WriteFault, put};
-use vp_region::Region;
-
-/// The answer to words that are no command.
-pub(crate) const USAGE: &[u8; 6] = b"usage\n";
+use crate::job::job_of;
+use crate::vpoker_lent;
+use vp_answer::{Status, is_alone, words_of_read};
+use vp_command::{Command, command_of};
+use vp_io::{Sink, WriteFault};
 
 /// How many words of 64 bits the answer to the words and the input needs beside its input.
 #[tactic(auto, unfolding(crate::specs::Memory::region_words))]
@@ -41,32 +36,21 @@ pub fn in_region(words: &[&str], bytes: &[u8]) -> bool
     }
 }
 
-/// Whether what was read needs no memory beside its words.
-fn is_alone(read: &Result<Job<'_>, Stop>) -> bool
-    ensures { result ≡ alone_read job_alone read.now }
-{
-    !matches!(read, Ok(Job::Play(_) | Job::Compile(_) | Job::Sessions(_)))
-}
-
-/// Writes the text of the answer to the words and the input, in the memory of the region. It asks for no more: the only
-/// answer beside Ok is a write fault, with its cause.
-#[tactic(auto, unfolding(crate::specs::Memory::region_words, crate::specs::Memory::in_region, crate::specs::Answer::answer, crate::specs::Answer::usage, crate::specs::Answer::tables_answer))]
+/// Writes the text of the answer to the words and the input, in the words of memory that are lent, which may hold any
+/// numbers. It asks for no more: the only answer beside Ok is a write fault, with its cause.
 pub fn served<K: Sink>(
     words: &[&str],
     bytes: &[u8],
-    region: &mut Region,
+    memory: &mut [u64],
     sink: &mut K,
 ) -> Result<(), WriteFault>
     requires limit { length bytes.now ≤ 67108864 }
-    requires region { region_words (map (λ w. w.now) words.now) bytes.now ≤ region.old }
+    requires room { region_words (map (λ w. w.now) words.now) bytes.now ≤ length memory.old }
     requires alone { in_region (map (λ w. w.now) words.now) bytes.now ≡ true }
-    ensures puts { Puts (K.told sink.old) (K.told sink.new) result (answer (map (λ w. w.now) words.now) bytes.now).text }
-    // The region is as large as before, so it serves again.
-    ensures same { region.new ≡ region.old }
+    ensures { Puts (K.told sink.old) (K.told sink.new) result (answer (map (λ w. w.now) words.now) bytes.now).text }
 {
-    match command_of(words) {
-        None => put(sink, USAGE),
-        Some(Command::Tables) => put_tables(sink),
-        Some(Command::Over(task)) => put_read(&job_of(task, bytes), region, sink),
+    match vpoker_lent(words, bytes, memory, sink) {
+        Status::WriteFault => Err(WriteFault),
+        _ => Ok(()),
     }
 }

@@ -1,19 +1,20 @@
 //! All that the program does, from its words and its input to its text and its status.
 
-ghost use Rattle.std.specs.Prelude.{◌≡◌, [], map, true, false, ℕ, List};
-ghost use Rattle.vp_answer.specs.Answers.{answer_read};
+ghost use Rattle.std.specs.Prelude.{◌≡◌, [], map, true, false};
 ghost use Rattle.vp_answer.specs.Closing.{TookNothing};
 ghost use Rattle.vp_answer.specs.Outcome.{Outcome, Unread};
-ghost use Rattle.vp_run.specs.Answer.{answer, job_answer, job_of, needs_input, tables_answer, usage};
+ghost use Rattle.vp_run.specs.Answer.{answer, needs_input, tables_answer, task_answer, usage};
 ghost use Rattle.vp_command.specs.Commands.{InRange};
 
-use crate::command::{Command, Task, command_of};
 use crate::job::job_of;
-use crate::serve::USAGE;
 use crate::tables::put_tables;
 use std::alloc::Global;
 use vp_answer::{Status, close, write_read};
+use vp_command::{Command, Task, command_of};
 use vp_io::{Blocks, ReadStop, Sink, Source, WriteFault, put, read_all};
+
+/// The answer to words that are no command.
+pub(crate) const USAGE: &[u8; 6] = b"usage\n";
 
 /// All that the program does. The words are the arguments after the program's name.
 #[tactic(auto, unfolding(crate::specs::Answer::answer, crate::specs::Answer::needs_input))]
@@ -96,7 +97,7 @@ fn read_and_answer<S: Source, K: Sink>(
     sink: &mut K,
 ) -> Status
     requires { InRange task }
-    ensures { Outcome (λ (bytes : List ℕ). answer_read job_answer (job_of task bytes))
+    ensures { Outcome (task_answer task)
         (S.told source.old)
         (S.told source.new)
         (K.told sink.old)

@@ -19,3 +19,4 @@ pub mod CarriedBack
 pub mod CardHeaps
 pub mod Runs
 pub mod Weighed
+pub mod FewClasses

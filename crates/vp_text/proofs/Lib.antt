@@ -1,6 +1,7 @@
 pub mod Cuts
 pub mod Places
 pub mod Spelled
+pub mod Answered
 pub mod Sections
 pub mod Joined
 pub mod Rows
@@ -11,6 +12,7 @@ pub mod Writing
 pub mod Comments
 pub mod Room
 pub mod Pieces
+pub mod Sequences
 pub mod Numbers
 pub mod Digits
 pub mod WithWords

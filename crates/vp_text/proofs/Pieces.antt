@@ -4,7 +4,7 @@ use Rattle.std.specs.Prelude.{◌↔◌, Option, option_map, bytes_eq}
 use Rattle.std.proofs.lemmas.Slice.Eq.{bytes_eq-Decides}
 use Rattle.vp_text.specs.ExactReaders.{ExactText}
 use Rattle.vp_text.specs.Lines.{Word}
-use Rattle.vp_text.specs.Pieces.{Piece, ◌>>=◌, ExactPiece, AreMany, one_word, so_many, key_word, ended, keyed}
+use Rattle.vp_text.specs.Pieces.{Piece, ◌>>=◌, ExactPiece, AreMany, one_word, so_many, key_word, ended}
 
 pub record Bound {A B : Type 0} (o : Option A) (f : A → Option B) (y : B) : Type 0 where
   pub value : A
@@ -124,22 +124,6 @@ Exact-key_word key = record {
 pub at_end : {A : Type 0} (words : List Word) (x y : A) → ended x words ≡ Some y → (words ≡ []) × (x ≡ y)
 at_end [] x y e = (refl, cc)
 at_end (word ∷ words) x y e = absurd cc
-
--- a line of two words
-pub Exact-keyed : {A : Type 0} (key : Word) {word : A → Word} {Valid : A → Type 0} {read : Word → Option A} → ExactText word Valid read
-    → ExactText (λ a. key ∷ word a ∷ []) Valid (keyed key read)
-Exact-keyed {A = A} key {word = word} {Valid = Valid} {read = read} exact = record {
-  takes = taken;
-  again = λ value valid. rw (same_bytes key, exact.again value valid);
-} where
-  taken : (words : List Word) (value : A) → keyed key read words ≡ Some value → Valid value × (key ∷ word value ∷ [] ≡ words)
-  taken words value e =
-      let first = bound _ _ _ e
-      in let second = bound _ _ _ first.then
-      in let end = at_end _ _ _ second.then
-      in let k = took (Exact-key_word key) words first.value first.first
-      in let v = took (Exact-one_word exact) first.value.1 second.value second.first
-      in rw (← end.1) (v.valid, sym (k.front ∙ ap (λ (ws : List Word). key ∷ ws) (v.front ∙ ap (λ (ws : List Word). word second.value.0 ∷ ws) end.0)))
 
 -- ---- what is taken from the front
 

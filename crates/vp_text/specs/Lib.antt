@@ -2,6 +2,7 @@ pub mod Lines
 pub mod Sections
 pub mod Reading
 pub mod Pieces
+pub mod Sequences
 pub mod Numbers
 pub mod Written
 pub mod ExactReaders

@@ -49,13 +49,6 @@ none_left (word ∷ rest) = false
 abbrev pub ended : {A : Type 0} → A → List Word → Option A
 ended value words = if none_left words then Some value else None
 
--- a line of two words: this word, and a value's
-abbrev pub keyed : {A : Type 0} → Word → (Word → Option A) → List Word → Option A
-keyed key read words = do
-  first ← key_word key words
-  value ← one_word read first.1
-  ended value.0 value.1
-
 -- ---- at most so many values
 
 -- values of one word each, behind these, up to this word: at most so many in all

@@ -3,7 +3,8 @@
 
 ghost use Rattle.std.specs.Prelude.{◌≡◌, ◌≤◌, IfSome};
 ghost use Rattle.vp_text.specs.Numbers.{number_of, number_within};
-ghost use Rattle.vp_text.specs.Pieces.{Takes, key_word, keyed, one_word};
+ghost use Rattle.vp_text.specs.Pieces.{Takes, key_word, one_word};
+ghost use Rattle.vp_text.specs.Sequences.{keyed};
 
 use crate::{Words, number};
 

@@ -7,7 +7,7 @@ use vp_pay::samples::{
     DEUCES_AND_ACE, GREATEST, JACKS, KICKER, LONG, ONE_JOKER, OPERATORS_JACKS, TWO_JOKERS, ZERO,
 };
 use vp_region::Region;
-use vp_run::{Status, in_region, region_words, served};
+use vp_run::{Status, in_region, region_words, served, vpoker_lent, words_to_lend};
 
 pub(crate) const ROYAL_DRAW: &[u8] = b"deal As Ks Qs Js 4s\n";
 
@@ -191,9 +191,9 @@ fn jokers_of_another_deck(rt: HostRuntime) -> Result<(), Fail> {
     Ok(())
 }
 
-// The two calls that the whole program is made of, by themselves.
+// The calls that the whole program is made of, by themselves.
 #[test]
-fn served_in_an_open_region(rt: HostRuntime) -> Result<(), Fail> {
+fn served_in_lent_words(rt: HostRuntime) -> Result<(), Fail> {
     let input = joined(rt.alloc(), JACKS, ROYAL_DRAW)?;
     assert!(rt; input.len() < 1000);
     let cases: [(&[&str], usize); 4] = [
@@ -204,12 +204,40 @@ fn served_in_an_open_region(rt: HostRuntime) -> Result<(), Fail> {
     ];
     for (words, due) in cases {
         assert_eq!(rt; region_words(words, &input), due);
+        assert_eq!(rt; words_to_lend(words, &input), Ok(due));
     }
     assert!(rt; in_region(&["deal", "1"], &input));
-    let mut region = Region::open(rt.alloc(), region_words(&["deal", "1"], &input))?;
+    let mut region = Region::open(rt.alloc(), 2_893_164)?;
     let mut room = [0; 512];
     let mut sink = MemSink::new(&mut room, 512, &[]);
-    assert!(rt; served(&["deal", "1"], &input, &mut region, &mut sink).is_ok());
+    assert!(rt; served(&["deal", "1"], &input, region.words(), &mut sink).is_ok());
     assert_eq!(rt; sink.taken(), ROYAL_DRAW_ANSWER);
+    Ok(())
+}
+
+// Words of memory that are lent: enough of them with any numbers in them, one too few, and a command for which no number
+// is enough.
+#[test]
+fn lent_words(rt: HostRuntime) -> Result<(), Fail> {
+    let input = joined(rt.alloc(), JACKS, ROYAL_DRAW)?;
+    let mut region = Region::open(rt.alloc(), 2_893_164)?;
+    region.words().fill(u64::MAX);
+    let made: &[&str] = &["play", "1", "1", "1"];
+    assert_eq!(rt; words_to_lend(made, JACKS), Err(Status::NoMemory));
+    let cases: [(&[&str], &[u8], usize, Status, &[u8]); 6] = [
+        (&["deal", "1"], &input, 2_893_163, Status::NoMemory, b""),
+        (&["deal", "1"], &input, 2_893_164, Status::Done, ROYAL_DRAW_ANSWER),
+        (&["deal", "2"], &input, 0, Status::Refused, b"refused 14\n"),
+        (&["deal"], &input, 0, Status::Usage, b"usage\n"),
+        (made, JACKS, 2_893_164, Status::NoMemory, b""),
+        (&["check", "1", "0"], JACKS, 0, Status::Refused, b"refused 15\n"),
+    ];
+    for (words, bytes, lent, due, text) in cases {
+        let mut room = [0; 512];
+        let mut sink = MemSink::new(&mut room, 512, &[]);
+        let status = vpoker_lent(words, bytes, &mut region.words()[..lent], &mut sink);
+        assert_eq!(rt; status, due);
+        assert_eq!(rt; sink.taken(), text);
+    }
     Ok(())
 }

@@ -1,7 +1,5 @@
 -- What a class line or the return breaks is the answer.
-use Rattle.std.proofs.Common.{◌≡◌, ◌∙◌, ap, sym}
-use Rattle.std.specs.Prelude.{Ok}
-use Rattle.vp_check.specs.Walks.{walked_at}
+use Rattle.std.proofs.Common.{◌∙◌, sym}
 use Rattle.vp_check.proofs.Verdicts.{broken_is, listed_is, walk_was}
 use Rattle.vp_check.proofs.checker.answer.Goals as goal
 

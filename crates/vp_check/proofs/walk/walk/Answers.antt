@@ -1,5 +1,5 @@
 -- The row that was read is asked, and the rows behind it are left.
-use Rattle.std.proofs.Common.{rules, length, ◌≡◌, ◌+◌, nat_le, if◌then◌else◌, List, ap, ◌∙◌, arith}
+use Rattle.std.proofs.Common.{rules, length, ◌≡◌, nat_le, if◌then◌else◌, List, ap, ◌∙◌, arith}
 use Rattle.vp_check.specs.declared.numbered.Numbered.{Numbered}
 use Rattle.vp_check.proofs.Walked.{later_lines, next_of_deck, one_asked, walk_step}
 use Rattle.vp_check.proofs.walk.walk.Goals as goal

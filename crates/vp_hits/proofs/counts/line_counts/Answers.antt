@@ -8,10 +8,10 @@ of-printed-requires-clause-room c = omega (arith, c.requires.longer, first_word_
 
 pub returns-clause-lines : goal.returns-clause-lines
 returns-clause-lines c = λ place l.
-    c.loop-half.invariant.told place (omega (arith, c.len-many.ensures.value))
+    c.loop-half.invariant.counted place (omega (arith, c.len-many.ensures.value))
     ∙ same_often c.of-printed.ensures.table c.of-printed.ensures.coin (asked_line c.args.table.now place l)
 
 pub returns-clause-none : goal.returns-clause-none
 returns-clause-none c =
-    c.loop-half.invariant.told c.len-many.result (omega (arith, c.len-many.ensures.value))
+    c.loop-half.invariant.counted c.len-many.result (omega (arith, c.len-many.ensures.value))
     ∙ same_often c.of-printed.ensures.table c.of-printed.ensures.coin (asked_none c.args.table.now c.len-many.result c.len-many.ensures.value)

@@ -7,5 +7,5 @@ use Rattle.vp_hits.proofs.counts.line_counts.Given as goal
 abbrev pub invariant-loop-half : goal.invariant-loop-half
 invariant-loop-half l = record {
   long : length l.lines ≡ 34;
-  told : (i : ℕ) → i < 2 * l.half → get_or l.lines i 0 ≡ often l.printed.table l.printed.coin (asked_at l.table i);
+  counted : (i : ℕ) → i < 2 * l.half → get_or l.lines i 0 ≡ often l.printed.table l.printed.coin (asked_at l.table i);
 }

@@ -1,6 +1,7 @@
 use Rattle.std.proofs.Common.{arith}
 use Rattle.vp_hits.specs.Numbers.{two_marks}
-use Rattle.vp_hits.proofs.Chances.{mark_le, numbers_small, two_told, within}
+use Rattle.vp_hits.proofs.Chances.{mark_le, two_hits_are}
+use Rattle.vp_hold.proofs.Numbers.{numbers_small, within}
 use Rattle.vp_hits.proofs.pair_hits.pair_of.Goals as goal
 
 pub two_marks_of-numbers-requires : goal.two_marks_of-numbers-requires
@@ -13,5 +14,5 @@ number_means-requires-clause-bounded g c =
 pub invariant_of-result : goal.invariant_of-result
 invariant_of-result g c = record {
   rules = c.requires.rules;
-  counted = two_told (record { table = c.args.table.now; first = c.args.first; second = c.args.second }) c.two_marks_of-numbers.result c.number_means.result c.requires.rules c.two_marks_of-numbers.ensures c.number_means.ensures.sums;
+  counted = two_hits_are (record { table = c.args.table.now; first = c.args.first; second = c.args.second }) c.two_marks_of-numbers.result c.number_means.result c.requires.rules c.two_marks_of-numbers.ensures c.number_means.ensures.sums;
 }

@@ -1,16 +1,16 @@
-use Rattle.std.proofs.Common.{rules}
-use Rattle.vp_text.proofs.Standing.{leaves_next}
+use Rattle.std.proofs.Common.{sym, ◌∙◌}
+use Rattle.vp_text.proofs.Standing.{leaves_then}
+use Rattle.vp_loggram.proofs.Next_games.{game_read}
 use Rattle.vp_loggram.proofs.log.skip_games.Goals as goal
 
-pub returns-then-only_is-clause-leaves : goal.returns-then-only_is-clause-leaves
-returns-then-only_is-clause-leaves c = leaves_next _ _ _ _ c.loop-words.invariant.leaves c.in-Some.ensures.next.0 c.in-Some.ensures.next.1 c.in-Some.ensures.past
+pub returns-in_err-next_game-clause-leaves : goal.returns-in_err-next_game-clause-leaves
+returns-in_err-next_game-clause-leaves c = leaves_then _ _ _ c.games.invariant.leaves c.next_game.ensures.leaves
 
-pub returns-then-not-is_game-clause-leaves : goal.returns-then-not-is_game-clause-leaves
-returns-then-not-is_game-clause-leaves c = leaves_next _ _ _ _ c.loop-words.invariant.leaves c.in-Some.ensures.next.0 c.in-Some.ensures.next.1 c.in-Some.ensures.past
-
-pub loop-words-preserved : goal.loop-words-preserved
-loop-words-preserved c = record {
-  so_far = search rules;
-  past = search rules;
-  leaves = leaves_next _ _ _ _ c.loop-words.invariant.leaves c.in-Some.ensures.next.0 c.in-Some.ensures.next.1 c.in-Some.ensures.past;
+pub games-preserved : goal.games-preserved
+games-preserved c = record {
+  so_far = sym (game_read _ _ _ _ _ c.in-Some.is c.in_ok-next_game.ensures.read).skipped ∙ c.games.invariant.so_far;
+  leaves = leaves_then _ _ _ c.games.invariant.leaves c.next_game.ensures.leaves;
 }
+
+pub returns-clause-leaves : goal.returns-clause-leaves
+returns-clause-leaves c = leaves_then _ _ _ c.games.invariant.leaves c.next_game.ensures.leaves

@@ -1,7 +1,7 @@
 -- Over the blocks nothing is held back at first, and what the answer leaves there is put at the end.
 use Rattle.std.proofs.Common.{[]}
 use Rattle.vp_answer.proofs.Closing.{outcome_closed, unread_closed}
-use Rattle.vp_run.proofs.SomeText.{answer_some}
+use Rattle.vp_run.proofs.NoCommand.{answer_some}
 use Rattle.vp_run.proofs.top.vpoker_in_blocks.Goals as goal
 
 pub returns-clause-words : goal.returns-clause-words

@@ -1,4 +1,4 @@
-use Rattle.vp_rule.proofs.Answered.{found, only, refused}
+use Rattle.vp_text.proofs.Answered.{found, only, refused}
 use Rattle.vp_rule.proofs.Kept.{as_read}
 use Rattle.vp_rule.proofs.ListsGrammar.{Exact-list}
 use Rattle.vp_rule.proofs.list.List.read.Goals as goal

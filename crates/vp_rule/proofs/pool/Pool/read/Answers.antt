@@ -1,4 +1,4 @@
-use Rattle.vp_rule.proofs.Answered.{found, only, refused}
+use Rattle.vp_text.proofs.Answered.{found, only, refused}
 use Rattle.vp_rule.proofs.ListsGrammar.{Exact-pool}
 use Rattle.vp_rule.proofs.pool.Pool.read.Goals as goal
 

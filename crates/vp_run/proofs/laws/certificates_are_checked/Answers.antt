@@ -1,6 +1,0 @@
--- What is printed is true, and is read again.
-use Rattle.vp_run.proofs.EveryDeals.{certificates_checked}
-use Rattle.vp_run.proofs.laws.certificates_are_checked.Goals as goal
-
-pub returns : goal.returns
-returns c = certificates_checked

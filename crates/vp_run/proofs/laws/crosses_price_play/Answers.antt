@@ -1,5 +1,0 @@
-use Rattle.vp_run.proofs.PrintedCrosses.{crosses_told}
-use Rattle.vp_run.proofs.laws.crosses_price_play.Goals as goal
-
-pub returns : goal.returns
-returns c = crosses_told

@@ -1,0 +1,3 @@
+pub mod SessionInputs
+pub mod SessionLines
+pub mod SessionsTell
