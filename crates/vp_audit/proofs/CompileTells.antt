@@ -1,14 +1,14 @@
 -- What the text of `compile` tells, and that its list is audited.
-use Rattle.std.proofs.Common.{◌≡◌, ◌≢◌, ℕ, ◌*◌, ◌-◌, ◌^◌, ◌<◌, ◌≤◌, List, [], ◌∷◌, ◌++◌, map, length, refl, sym, ap, subst, ◌∙◌, arith, append_assoc, append-nil, length-append}
+use Rattle.std.proofs.Common.{◌≡◌, ◌≢◌, ℕ, ◌*◌, ◌^◌, ◌<◌, ◌≤◌, List, [], ◌∷◌, ◌++◌, map, length, refl, sym, ap, subst, ◌∙◌, arith, append_assoc, append-nil, length-append}
 use Rattle.std.specs.Prelude.{IsTrue, Ok, codes}
 use Rattle.std.specs.Fmt.{decimal}
-use Rattle.std.specs.List.{AllByRecursion, range_with_len, sum_by}
+use Rattle.std.specs.List.{AllByRecursion, range_with_len}
 use Rattle.std.proofs.lemmas.Bool.{le-leb}
 use Rattle.std.proofs.lemmas.Grind.{flat_map-append}
 use Rattle.std.proofs.lemmas.List.Concat.{flat_map-cons}
 use Rattle.std.proofs.lemmas.List.{length-map}
 use Rattle.std.proofs.lemmas.List.FromFn.{length-range_with_len}
-use Rattle.std.proofs.lemmas.List.Sums.{count_by-le-length, length-filter, sum_by-cons}
+use Rattle.std.proofs.lemmas.List.Sums.{count_by-le-length, length-filter}
 use Rattle.vp_text.specs.Lines.{Word, feed_of}
 use Rattle.vp_text.specs.Sections.{Text, text_of}
 use Rattle.vp_text.specs.Written.{IsPlainLine, IsPlainWord, fraction, is_plain, line_of, spaced, written}
@@ -26,9 +26,10 @@ use Rattle.vp_rule.specs.Spelling.{list_text}
 use Rattle.vp_rule.specs.Valid.{IsList}
 use Rattle.vp_rule.proofs.Inputs.{lists_read, pools_read}
 use Rattle.vp_rule.proofs.PlainLists.{plain_list}
-use Rattle.vp_compile.specs.Excepted.{ArePlaces, excepted_places, is_needed, loss_given, loss_left}
+use Rattle.vp_compile.specs.Excepted.{ArePlaces, excepted_places, is_needed, loss_given}
 use Rattle.vp_compile.specs.Orders.{exchange}
-use Rattle.vp_compile.specs.Rows.{Row, row_at, value_loss}
+use Rattle.vp_compile.specs.Rows.{row_at}
+use Rattle.vp_compile.proofs.Excepted.{best_given}
 use Rattle.vp_compile.proofs.OrderLaws.{order_kept_at}
 use Rattle.vp_suit.proofs.FewClasses.{few_classes}
 use Rattle.vp_pay.proofs.ShortTables.{short_table}
@@ -61,14 +62,6 @@ pooled coin millionths bytes table pool some most says =
 
 -- ---- the list that is printed loses little
 
-best_given : (rows : List Row) (places : List ℕ) → sum_by (λ place. value_loss (row_at rows place) (row_at rows place).best) places ≡ 0
-best_given rows [] = refl
-best_given rows (place ∷ places) =
-    let row : Row = row_at rows place in
-    let none : row.best - row.best ≡ 0 = omega arith in
-    let lost : row.weight * (row.best - row.best) ≡ 0 = omega (arith, ap (λ n. row.weight * n) none) in
-    omega (arith, lost, best_given rows places, sum_by-cons (λ place. value_loss (row_at rows place) (row_at rows place).best) place places)
-
 module _ (p : Pooled) (is : IsPooled p) where
   -- a loss within the limit is within the target, and one above it is not
   within_limit : (lost : ℕ) → lost ≤ limit p → IsWithin p lost
@@ -90,17 +83,12 @@ module _ (p : Pooled) (is : IsPooled p) where
             omega (arith, last.1 place inside, order_is p.table p.coin is.bet p.pool is.pool (last_places p) last.0, order_is p.table p.coin is.bet p.pool is.pool (exchange (last_places p) place) next);
       }
 
-  -- nothing more is lost where the values that are given are the best
-  given_best : (places : List ℕ) → loss_given (matrix p).rows (last_places p) places (λ place. (row_at (matrix p).rows place).best) ≡ loss_left (matrix p).rows (last_places p) places
-  unfolding loss_given
-  given_best places = omega (arith, best_given (matrix p).rows places)
-
   too_few : FewerAreTooFew p
   too_few places mask are low few =
       let given : limit p < loss_given (matrix p).rows (last_places p) places (λ place. (row_at (matrix p).rows place).best) = (fewest p is).fewest places (λ place. (row_at (matrix p).rows place).best) (subst (λ n. ArePlaces n places) (sym (row_number p is)) are) few in
       let left = left_is p.table p.coin is.bet p.pool is.pool (last_places p) (last_whole p is).0 places are in
       let masked = best_lose_least p.table p.coin p.pool (last_places p) places mask is.bet.rules.known_deck.0 are.below low in
-      above_limit _ (omega (arith, given, given_best places, left, masked))
+      above_limit _ (omega (arith, given, best_given (matrix p).rows (last_places p) places, left, masked))
 
 pub lists_lose_little : CompiledListsLoseLittle
 lists_lose_little coin millionths bytes table pool some most says =
@@ -156,18 +144,18 @@ unfolding loss
 small_loss table coin list = omega arith
 
 -- a number over another, behind a word
-abbrev told : Word → ℕ → ℕ → List Word
-told key over under = key ∷ fraction over under
+abbrev fraction_words : Word → ℕ → ℕ → List Word
+fraction_words key over under = key ∷ fraction over under
 
-plain_told : (key : Word) (over under : ℕ) → IsPlainWord key → over < 2 ^ 64 → under < 2 ^ 64 → IsPlainLine (told key over under)
-plain_told key over under plain low small = (omega arith, (plain, (plain_number over low, (plain_key (codes "/") (omega arith) refl, (plain_number under small, tt)))))
+plain_fraction : (key : Word) (over under : ℕ) → IsPlainWord key → over < 2 ^ 64 → under < 2 ^ 64 → IsPlainLine (fraction_words key over under)
+plain_fraction key over under plain low small = (omega arith, (plain, (plain_number over low, (plain_key (codes "/") (omega arith) refl, (plain_number under small, tt)))))
 
-comment_room : (key : Word) (over under : ℕ) → length key ≤ 8 → over < 2 ^ 64 → under < 2 ^ 64 → room (codes "#" ∷ told key over under) < 100
+comment_room : (key : Word) (over under : ℕ) → length key ≤ 8 → over < 2 ^ 64 → under < 2 ^ 64 → room (codes "#" ∷ fraction_words key over under) < 100
 comment_room key over under short low small =
     omega (
       arith,
       short,
-      room-cons (codes "#") (told key over under),
+      room-cons (codes "#") (fraction_words key over under),
       room-cons key (fraction over under),
       room-cons (decimal over) (codes "/" ∷ decimal under ∷ []),
       two_words (codes "/") (decimal under),
@@ -188,14 +176,14 @@ module _ (p : Pooled) (is : IsPooled p) where
   under_fits = denominator_fits p.table.deck p.coin is.bet.rules.known_deck (omega (arith, is.bet.within, is.bet.rules.most_coins))
 
   -- the numbers that are said, without `#`
-  abbrev told_lines : Text
-  told_lines =
-      told (codes "optimum") (sum_of_best p.table p.coin) under ∷
-      told (codes "start") (loss p.table p.coin (ordered_list p.pool (first_places p))) under ∷
-      told (codes "settled") (loss p.table p.coin (ordered_list p.pool (last_places p))) under ∷
-      told (codes "loss") (loss p.table p.coin (printed_list p)) under ∷ []
+  abbrev number_lines : Text
+  number_lines =
+      fraction_words (codes "optimum") (sum_of_best p.table p.coin) under ∷
+      fraction_words (codes "start") (loss p.table p.coin (ordered_list p.pool (first_places p))) under ∷
+      fraction_words (codes "settled") (loss p.table p.coin (ordered_list p.pool (last_places p))) under ∷
+      fraction_words (codes "loss") (loss p.table p.coin (printed_list p)) under ∷ []
 
-  said_is : said_lines p ≡ commented told_lines
+  said_is : said_lines p ≡ commented number_lines
   unfolding said_lines
   said_is = refl
 
@@ -205,23 +193,23 @@ module _ (p : Pooled) (is : IsPooled p) where
   loss_low : (list : RuleList) → loss p.table p.coin list < 2 ^ 64
   loss_low list = omega (arith, best_low, small_loss p.table p.coin list)
 
-  told_plain : AllByRecursion IsPlainLine told_lines
-  told_plain = (
-    plain_told (codes "optimum") (sum_of_best p.table p.coin) under (plain_key (codes "optimum") (omega arith) refl) best_low under_fits,
+  numbers_plain : AllByRecursion IsPlainLine number_lines
+  numbers_plain = (
+    plain_fraction (codes "optimum") (sum_of_best p.table p.coin) under (plain_key (codes "optimum") (omega arith) refl) best_low under_fits,
     (
-      plain_told (codes "start") (loss p.table p.coin (ordered_list p.pool (first_places p))) under (plain_key (codes "start") (omega arith) refl) (loss_low _) under_fits,
+      plain_fraction (codes "start") (loss p.table p.coin (ordered_list p.pool (first_places p))) under (plain_key (codes "start") (omega arith) refl) (loss_low _) under_fits,
       (
-        plain_told (codes "settled") (loss p.table p.coin (ordered_list p.pool (last_places p))) under (plain_key (codes "settled") (omega arith) refl) (loss_low _) under_fits,
-        (plain_told (codes "loss") (loss p.table p.coin (printed_list p)) under (plain_key (codes "loss") (omega arith) refl) (loss_low _) under_fits, tt),
+        plain_fraction (codes "settled") (loss p.table p.coin (ordered_list p.pool (last_places p))) under (plain_key (codes "settled") (omega arith) refl) (loss_low _) under_fits,
+        (plain_fraction (codes "loss") (loss p.table p.coin (printed_list p)) under (plain_key (codes "loss") (omega arith) refl) (loss_low _) under_fits, tt),
       ),
     ),
   )
 
   said_read : (more : List ℕ) → text_of (feed_of (written (said_lines p) ++ more)).lines ≡ text_of (feed_of more).lines
-  said_read more = ap (λ (lines : Text). text_of (feed_of (written lines ++ more)).lines) said_is ∙ comments_read told_lines more told_plain
+  said_read more = ap (λ (lines : Text). text_of (feed_of (written lines ++ more)).lines) said_is ∙ comments_read number_lines more numbers_plain
 
-  told_short : AllByRecursion (λ words. room words < 100) (commented told_lines)
-  told_short = (
+  comments_short : AllByRecursion (λ words. room words < 100) (commented number_lines)
+  comments_short = (
     comment_room (codes "optimum") (sum_of_best p.table p.coin) under (omega arith) best_low under_fits,
     (
       comment_room (codes "start") (loss p.table p.coin (ordered_list p.pool (first_places p))) under (omega arith) (loss_low _) under_fits,
@@ -233,7 +221,7 @@ module _ (p : Pooled) (is : IsPooled p) where
   )
 
   said_short : length (written (said_lines p)) ≤ 400
-  said_short = subst (λ (lines : Text). length (written lines) ≤ 400) (sym said_is) (let all : length (written (commented told_lines)) ≤ 100 * 4 = room_lines 100 (commented told_lines) told_short in omega (arith, all))
+  said_short = subst (λ (lines : Text). length (written lines) ≤ 400) (sym said_is) (let all : length (written (commented number_lines)) ≤ 100 * 4 = room_lines 100 (commented number_lines) comments_short in omega (arith, all))
 
   -- the pay table, as it is written, with what `compile` prints behind it
   abbrev file : List ℕ

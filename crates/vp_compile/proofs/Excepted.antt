@@ -21,7 +21,7 @@ unfolding loss_left
 left_less rows order some more h = omega (arith, h)
 
 -- best holds lose nothing
-best_given : (rows : List Row) (order places : List ℕ) → loss_given rows order places (λ place. (row_at rows place).best) ≡ loss_left rows order places
+pub best_given : (rows : List Row) (order places : List ℕ) → loss_given rows order places (λ place. (row_at rows place).best) ≡ loss_left rows order places
 unfolding loss_given
 best_given rows order places = omega (arith, sum_by-le (λ place. value_loss (row_at rows place) (row_at rows place).best) 0 places (λ k d l. nothing (row_at rows (get_or places k d))))
   where
