@@ -7,3 +7,4 @@ pub mod Runs
 pub mod SoFar
 pub mod Quiet
 pub mod Telling
+mod Seeking

@@ -4,3 +4,4 @@ pub mod Columns
 pub mod Costs
 pub mod Summaries
 pub mod Adding
+pub mod Seeking
