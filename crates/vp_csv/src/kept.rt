@@ -8,9 +8,8 @@ ghost use Rattle.vp_csv.specs.Kept.{closed, has_name, start_line, with_text, wit
 
 use std::alloc::{AllocError, Global};
 use std::marker::Model;
-use vp_loggram::Event;
+use vp_loggram::{Event, append_end, append_start};
 use vp_pay::Name;
-use vp_text::Out;
 
 /// A session: its name, and the text of its log.
 #[derive(Drop)]
@@ -29,14 +28,12 @@ impl Model for Kept {
 
 impl Kept {
     /// A session that starts with so many credits.
+    #[tactic(auto, unfolding(crate::specs::Kept::start_line))]
     pub(crate) fn open(alloc: Global, name: Name, start: u64) -> Result<Kept, AllocError>
         ensures { IfOk result (λ k. k ≡ record { name = name; text = start_line start }) }
     {
         let mut text = Vec::new(alloc);
-        let mut out = Out::new();
-        out.word(b"log");
-        out.number(u128::from(start));
-        text.extend_from_slice(out.line())?;
+        append_start(&mut text, start)?;
         Ok(Kept { name, text })
     }
 
@@ -69,7 +66,7 @@ impl Kept {
     fn close(&mut self) -> Result<(), AllocError>
         ensures { OnOk result (self.new ≡ closed self.old) }
     {
-        self.text.extend_from_slice(b"end\n")
+        append_end(&mut self.text)
     }
 }
 

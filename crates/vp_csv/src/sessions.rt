@@ -67,11 +67,11 @@ impl Sessions {
     }
 
     /// The name of the session at a place, from 0.
-    pub fn name(&self, place: u32) -> Name
+    pub fn name(&self, place: u32) -> &Name
         requires { place < length self.now.sessions }
-        ensures { result ≡ (session_at self.now place).name }
+        ensures { result.now ≡ (session_at self.now place).name }
     {
-        Name::read(self.kept[place as usize].name().text()).unwrap_or_default()
+        self.kept[place as usize].name()
     }
 
     /// The log of the session at a place, from 0: the bytes of a log section.

@@ -12,10 +12,6 @@ use Rattle.vp_loggram.specs.Spelling.{event_words, key_number, log_text}
 use Rattle.vp_loggram.specs.declared.event.Event.{Event}
 use Rattle.vp_gen.specs.Generator.{Made, games_from, generated, made}
 
--- the words of the first line are its bytes
-pub start_line : (start : ℕ) → with_word (with_word [] (codes "log")) (decimal start) ++ 10 ∷ [] ≡ line_of (key_number (codes "log") start)
-start_line start = line_bytes (codes "log") (decimal start ∷ []) (omega arith)
-
 -- ---- game by game
 
 pub next_game : (table : PayTable) (coin credits x left : ℕ) (e : Event) (y : ℕ) (text more all : List ℕ) → 0 < left → made table coin credits x ≡ record { event = e; state = y }

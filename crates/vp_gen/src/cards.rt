@@ -1,13 +1,13 @@
 //! Cards that are drawn out of a deck.
 
-ghost use Rattle.std.specs.Prelude.{◌≡◌, ◌+◌, ◌≤◌, ◌++◌, true, length};
-ghost use Rattle.vp_card.specs.Cards.{IsDeck, all_differ, in_order};
+ghost use Rattle.std.specs.Prelude.{◌≡◌, ◌≤◌, length};
+ghost use Rattle.vp_card.specs.Cards.{IsDeck};
 ghost use Rattle.vp_sets.specs.Sets.{deck};
 ghost use Rattle.vp_gen.specs.Generator.{drawn};
 
 use crate::numbers::pick;
 use arrayvec::ArrayVec;
-use vp_card::{Card, Hand};
+use vp_card::Card;
 
 /// The cards of a deck of so many, rising.
 #[tactic(auto, using(crate::proofs::Drawing::no_card, crate::proofs::Drawing::next_card))]
@@ -61,17 +61,4 @@ pub(crate) fn deal(rest: &mut ArrayVec<Card, 54>, state: &mut u64) -> [Card; 5]
     ensures { drawn 5 state.old rest.old.items ≡ record { cards = result; rest = rest.new.items; state = state.new } }
 {
     draw(rest, state, 5).into_inner().unwrap()
-}
-
-/// The hand of held and drawn cards.
-pub(crate) fn final_hand(hold: &[Card], draw: &[Card]) -> Hand
-    requires five { length hold.now + length draw.now ≡ 5 }
-    requires differ { all_differ (hold.now ++ draw.now) ≡ true }
-    ensures { result ≡ in_order (hold.now ++ draw.now) }
-{
-    let mut cards = [Card::default(); 5];
-    let (front, back) = cards.split_at_mut(hold.len());
-    front.copy_from_slice(hold);
-    back.copy_from_slice(draw);
-    Hand::of(cards).unwrap()
 }

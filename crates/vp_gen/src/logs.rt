@@ -1,8 +1,8 @@
 //! A whole log.
 
-ghost use Rattle.std.specs.Prelude.{◌≡◌, ◌*◌, ◌<◌, ◌≤◌, ◌++◌, [], ◌∷◌, codes, length, map, IfOk, OnOk};
-ghost use Rattle.vp_text.specs.Written.{line_of, written};
-ghost use Rattle.vp_loggram.specs.Spelling.{event_words, key_number, log_text};
+ghost use Rattle.std.specs.Prelude.{◌≡◌, ◌*◌, ◌<◌, ◌≤◌, ◌++◌, length, map, IfOk, OnOk};
+ghost use Rattle.vp_text.specs.Written.{written};
+ghost use Rattle.vp_loggram.specs.Spelling.{event_words, log_text};
 ghost use Rattle.vp_gen.specs.Generator.{games_from, generated};
 
 use crate::cards::whole_deck;
@@ -11,19 +11,8 @@ use std::alloc::{AllocError, Global};
 use std::marker::Brand;
 use std::sync::ledger::{Blank, Ledger};
 use vp_hold::Game;
-use vp_text::Out;
+use vp_loggram::{append_end, append_start};
 use vp_wild::{KeptPayments, Steps};
-
-/// Appends the first line of a log.
-#[tactic(auto, using(crate::proofs::Lines::start_line, vp_text::proofs::Room::length_with_word, vp_text::proofs::Room::length_decimal))]
-fn push_start(text: &mut Vec<u8>, start: u64) -> Result<(), AllocError>
-    ensures { OnOk result (text.new.items ≡ text.old.items ++ line_of (key_number (codes "log") start)) }
-{
-    let mut out = Out::new();
-    out.word(b"log");
-    out.number(start as u128);
-    text.extend_from_slice(out.line())
-}
 
 /// Appends the games of a log, from these credits and this state on.
 fn push_games<L: Ledger>(
@@ -76,7 +65,7 @@ fn log_of<L: Ledger>(
     let mut payments = KeptPayments::new(table, coin);
     let start = u64::from(coin) * u64::from(games);
     let mut text = Vec::new(alloc);
-    push_start(&mut text, start)?;
+    append_start(&mut text, start)?;
     let mut steps = Steps::<L>::new(blank);
     push_games(
         &mut text,
@@ -87,7 +76,7 @@ fn log_of<L: Ledger>(
         &mut payments,
         &mut steps,
     )?;
-    text.extend_from_slice(b"end\n")?;
+    append_end(&mut text)?;
     Ok(text)
 }
 

@@ -6,10 +6,10 @@ ghost use Rattle.vp_sets.specs.Sets.{deck};
 ghost use Rattle.vp_wild.specs.Payment.{pay};
 ghost use Rattle.vp_gen.specs.Generator.{made, masked};
 
-use crate::cards::{copied, deal, draw, final_hand};
+use crate::cards::{copied, deal, draw};
 use crate::numbers::pick;
 use std::sync::ledger::Ledger;
-use vp_card::{Card, Hand};
+use vp_card::{Card, Hand, final_hand};
 use vp_hold::Game;
 use vp_loggram::Event;
 use vp_wild::{KeptPayments, Steps};
@@ -57,6 +57,7 @@ pub(crate) fn make_event<L: Ledger>(
     ensures least { credits ≤ result.credits + game.now.coin }
     ensures same { payments.new ≡ payments.old }
 {
+    // What `table` ensures is wanted: the deck has 52 cards or more.
     let _table = game.table();
     let mut rest = copied(pack);
     let deal = deal(&mut rest, state);

@@ -81,6 +81,7 @@ impl<'a> Log<'a> {
     #[tactic(auto, unfolding(crate::specs::Sections::log_opened))]
     pub fn open(lines: &mut Lines<'a>, deck: u8) -> Result<Log<'a>, Refused>
         ensures read { Gives (λ log. log) result lines.new (log_opened deck lines.old) }
+        ensures games { IfOk result (λ log. log.events ≡ events_in_front deck lines.new.lines) }
         ensures leaves { Leaves lines.old lines.new }
         ensures at { IfErr result (λ e. IsAt e.line lines.new) }
     {

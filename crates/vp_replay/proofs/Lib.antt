@@ -10,3 +10,4 @@ pub mod Telling
 pub mod ReplayWords
 pub mod ReplayTells
 pub mod LogFiles
+mod Seeking

@@ -13,15 +13,23 @@ use Rattle.vp_replay.proofs.LawfulCards.{first_none, kept_cards, kept_if, lawful
 
 -- ---- one more game
 
-pub stops_game : (table : PayTable) (game credits : ℕ) (all rest : List Event) (e : Event) (b : Breach) (x : Option Broken) → all ≡ e ∷ rest → break_of table credits e ≡ Some b
-    → first_break table game credits all ≡ x → x ≡ Some (record { game = game; rule = b.rule; said = b.said; due = b.due })
-unfolding first_break
-stops_game table game credits all rest e b x split bad is = sym is ∙ rw (split, bad) refl
+later_same : (o : Option Breach) (game : ℕ) (more : Option Broken) (b : Broken) → or_later o game None ≡ Some b → or_later o game more ≡ Some b
+later_same None game more b is = absurd cc
+later_same (Some breach) game more b is = is
 
-pub goes_game : (table : PayTable) (game credits : ℕ) (all rest : List Event) (e : Event) (x : Option Broken) → all ≡ e ∷ rest → break_of table credits e ≡ None
+unbroken_game : (o : Option Breach) (game : ℕ) (more : Option Broken) → or_later o game None ≡ None → or_later o game more ≡ more
+unbroken_game None game more is = refl
+unbroken_game (Some breach) game more is = absurd cc
+
+pub stops_game : (table : PayTable) (game credits : ℕ) (all rest : List Event) (e : Event) (b : Broken) (x : Option Broken) → all ≡ e ∷ rest → or_later (break_of table credits e) game None ≡ Some b
+    → first_break table game credits all ≡ x → x ≡ Some b
+unfolding first_break
+stops_game table game credits all rest e b x split bad is = sym is ∙ rw split (later_same (break_of table credits e) game _ b bad)
+
+pub goes_game : (table : PayTable) (game credits : ℕ) (all rest : List Event) (e : Event) (x : Option Broken) → all ≡ e ∷ rest → or_later (break_of table credits e) game None ≡ None
     → first_break table game credits all ≡ x → first_break table (game + 1) e.credits rest ≡ x
 unfolding first_break
-goes_game table game credits all rest e x split fine is = rw (split, fine) at is
+goes_game table game credits all rest e x split fine is = sym (unbroken_game (break_of table credits e) game (first_break table (game + 1) e.credits rest) fine) ∙ rw split at is
 
 pub ends_game : (table : PayTable) (game credits : ℕ) (all : List Event) (x : Option Broken) → all ≡ [] → first_break table game credits all ≡ x → x ≡ None
 unfolding first_break

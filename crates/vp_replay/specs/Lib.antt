@@ -6,3 +6,4 @@ pub mod Summaries
 pub mod Adding
 pub mod Replay
 pub mod ReplayTells
+pub mod Seeking

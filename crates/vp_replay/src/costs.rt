@@ -1,7 +1,6 @@
 //! What the hold of a lawful game costs.
 
 ghost use Rattle.std.specs.Prelude.{◌≡◌, ◌<◌, true, if◌then◌else◌};
-ghost use Rattle.vp_sets.specs.Sets.{has};
 ghost use Rattle.vp_loggram.specs.Logs.{is_of_deck};
 ghost use Rattle.vp_sets.specs.Draws.{mask_of};
 ghost use Rattle.vp_sets.specs.Sets.{has};
@@ -61,6 +60,7 @@ pub fn cost_at(game: &Game, event: &Event) -> u64
     ensures value { result ≡ cost_of game.now.table event.now }
     ensures cost { IsCost game.now.table event.now result }
 {
+    // What `table` ensures is wanted: it is one.
     let _table = game.table();
     let hand = Hand::of(event.deal).unwrap();
     let mask = mask_of(&hand, &event.hold);

@@ -6,6 +6,7 @@ mod costs;
 mod games;
 mod job;
 mod laws;
+mod reading;
 mod replaying;
 mod rule;
 mod rules;
@@ -19,6 +20,7 @@ pub use laws::{
     costs_are_of_the_held_cards, lawful_logs_keep_the_laws, replay_inputs_are_read,
     replays_tell_costs,
 };
+pub use reading::read_log;
 pub use replaying::{put_replay, replay, summary_at};
 pub use rule::{Broken, LogRule};
 pub use summary::{Summary, put_summary};

@@ -79,6 +79,7 @@ pub fn replay<K: Sink>(
         slips: 0,
         loss: 0,
     };
+    // What `table` ensures is wanted: it is one.
     let _table = games.table();
     let mut events = log.events();
     while let Some(event) = events.next() {
@@ -105,6 +106,7 @@ pub fn summary_at(game: &Game, log: &Log) -> Summary
         slips: 0,
         loss: 0,
     };
+    // What `table` ensures is wanted: it is one.
     let _table = game.table();
     let mut events = log.events();
     while let Some(event) = events.next() {

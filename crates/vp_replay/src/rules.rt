@@ -1,6 +1,6 @@
 //! The laws of a game, tested one after another.
 
-ghost use Rattle.std.specs.Prelude.{◌≡◌, ◌≤◌, ◌<◌, ◌+◌, ◌^◌, ◌++◌, [], true, option_map, length, None, IfSome, IfNone};
+ghost use Rattle.std.specs.Prelude.{◌≡◌, ◌≤◌, ◌<◌, ◌+◌, ◌^◌, [], true, option_map, length, None, IfSome, IfNone};
 ghost use Rattle.std.specs.Option.{option_map_or};
 ghost use Rattle.vp_pay.specs.Bets.{IsBet};
 ghost use Rattle.vp_pay.specs.Table.{IsTable};
@@ -11,10 +11,10 @@ ghost use Rattle.vp_replay.specs.Rules.{asks_pay, bet_breach, break_of, broken_i
 use crate::LogRule;
 use crate::rule::Breach;
 use std::sync::ledger::Ledger;
-use vp_card::{Card, Hand};
+use vp_card::{Card, final_hand};
 use vp_loggram::Event;
 use vp_pay::PayTable;
-use vp_wild::{Steps, pay};
+use vp_wild::{KeptLines, Steps};
 
 /// A card that stands where it may not: its place, counted from 1, and its number.
 #[derive(Clone, Copy, Debug, PartialEq, Eq)]
@@ -184,46 +184,37 @@ fn cards_breach(event: &Event) -> Option<Breach>
     draw_breach(event)
 }
 
-/// Held and drawn cards, one behind the other.
-fn joined(hold: &[Card], draw: &[Card]) -> [Card; 5]
-    requires { length hold.now + length draw.now ≡ 5 }
-    ensures { result ≡ hold.now ++ draw.now }
-{
-    let mut cards = [Card::default(); 5];
-    let (front, back) = cards.split_at_mut(hold.len());
-    front.copy_from_slice(hold);
-    back.copy_from_slice(draw);
-    cards
-}
-
 /// What the table pays to the held and drawn cards; one step.
-#[tactic(auto, using(vp_draws::proofs::Payments::pay_le, crate::proofs::LawfulCards::final_five, crate::proofs::LawfulCards::final_differ))]
-fn paid<L: Ledger>(table: &PayTable, event: &Event, steps: &mut Steps<L>) -> u64
-    requires bet { IsBet table.now event.now.bet }
+#[tactic(auto, using(vp_draws::proofs::Payments::pay_le, vp_sets::proofs::Colex::hand_is_set, crate::proofs::LawfulCards::final_five, crate::proofs::LawfulCards::final_differ))]
+fn paid<L: Ledger>(kept: &mut KeptLines, event: &Event, steps: &mut Steps<L>) -> u64
+    requires bet { IsBet kept.old event.now.bet }
     requires cards { AreLawfulCards event.now }
-    ensures value { result ≡ paid table.now event.now }
+    ensures value { result ≡ paid kept.old event.now }
     ensures most { result ≤ 500000 }
+    ensures same { kept.new ≡ kept.old }
     ensures step { steps.new ≡ steps.old + 1 }
 {
-    let hand = Hand::of(joined(&event.hold, &event.draw)).unwrap();
-    u64::from(pay(table, event.bet as u8, &hand, steps))
+    let hand = final_hand(&event.hold, &event.draw);
+    let place = kept.line(&hand.numbers(), steps);
+    u64::from(vp_wild::paid(kept.table(), event.bet as u8, place))
 }
 
 /// The first broken law of a game that these credits stand before.
 #[tactic(auto, unfolding(crate::specs::Rules::break_of, crate::specs::Rules::bet_breach, crate::specs::Rules::funds_breach, crate::specs::Rules::pay_breach, crate::specs::Rules::credits_breach))]
 pub(crate) fn break_of<L: Ledger>(
-    table: &PayTable,
+    kept: &mut KeptLines,
     credits: u64,
     event: &Event,
     steps: &mut Steps<L>,
 ) -> Option<Breach>
-    requires table { IsTable table.now }
+    requires table { IsTable kept.old }
     requires credits { credits < 2 ^ 63 }
-    ensures breach { result ≡ break_of table.now credits event.now }
+    ensures breach { result ≡ break_of kept.old credits event.now }
+    ensures same { kept.new ≡ kept.old }
     ensures kept { IfNone result (event.now.credits ≤ credits + 500000) }
     ensures steps { steps.new ≡ steps.old + option_map_or (λ breach. asks_pay breach.rule) result 1 }
 {
-    if let Some(breach) = bet_breach(table, event) {
+    if let Some(breach) = bet_breach(kept.table(), event) {
         return Some(breach);
     }
     if let Some(breach) = funds_breach(credits, event) {
@@ -232,7 +223,7 @@ pub(crate) fn break_of<L: Ledger>(
     if let Some(breach) = cards_breach(event) {
         return Some(breach);
     }
-    let pay = paid(table, event, steps);
+    let pay = paid(kept, event, steps);
     if event.pay != pay {
         return broken_if(true, LogRule::Pay, event.pay, pay);
     }

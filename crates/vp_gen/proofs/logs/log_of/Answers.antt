@@ -11,12 +11,12 @@ use Rattle.vp_gen.proofs.logs.log_of.Goals as goal
 pub returns-clause-text : goal.returns-clause-text
 returns-clause-text g c =
     let start : c.from.result * c.from-2.result ≡ c.args.game.now.coin * c.args.games = rw (c.from.ensures, c.from-2.ensures, c.coin-coin.ensures.coin) refl in
-    let first : c.push_start.new.text.items ≡ [] ++ line_of (key_number (codes "log") (c.args.game.now.coin * c.args.games)) =
-    c.in_ok-push_start.ensures ∙ rw (start, c.new-text.ensures.items) refl in
+    let first : c.append_start.new.text.items ≡ [] ++ line_of (key_number (codes "log") (c.args.game.now.coin * c.args.games)) =
+    c.in_ok-append_start.ensures.line ∙ rw (start, c.new-text.ensures.items) refl in
     let games = c.args.game.now in
-    let second : c.push_games.new.text.items ≡ c.push_start.new.text.items ++ written (map event_words (games_from games.table games.coin (games.coin * c.args.games) c.args.seed c.args.games)) =
+    let second : c.push_games.new.text.items ≡ c.append_start.new.text.items ++ written (map event_words (games_from games.table games.coin (games.coin * c.args.games) c.args.seed c.args.games)) =
     rw start at c.in_ok-push_games.ensures in
-    whole_log games.table games.coin c.args.seed c.args.games c.push_start.new.text.items c.push_games.new.text.items _ first second c.in_ok-extend_from_slice.ensures.items
+    whole_log games.table games.coin c.args.seed c.args.games c.append_start.new.text.items c.push_games.new.text.items _ first second c.in_ok-append_end.ensures.line
 
 pub returns-clause-fits : goal.returns-clause-fits
 returns-clause-fits g c =

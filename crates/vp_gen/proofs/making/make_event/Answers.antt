@@ -55,7 +55,7 @@ returns-clause-made g c =
     let first = ap (drawn 5 c.args.state.now) (sym whole) ∙ c.deal-deal.ensures in
     let chosen = ap (λ (h : List ℕ). masked c.args.game.now.table c.args.game.now.coin h c.deal-deal.new.state) (sym hand) ∙ c.mask_of.ensures in
     let pays : c.from-pay.result ≡ pay c.args.game.now.table c.args.game.now.coin (in_order (c.held-hold.result.items ++ c.draw-draw.result.items)) =
-    c.from-pay.ensures ∙ rw (c.requires.payments, c.final_hand.ensures, c.deref.ensures.0, c.deref-2.ensures.0) at c.payment-pay.ensures.payment in
+    c.from-pay.ensures ∙ rw (c.requires.payments, c.final_hand.ensures.value, c.deref.ensures.0, c.deref-2.ensures.0) at c.payment-pay.ensures.payment in
     let bet : c.from-bet.result ≡ c.args.game.now.coin = c.from-bet.ensures ∙ c.coin-coin.ensures.coin in
     rw bet (made_from c.args.game.now.table c.args.game.now.coin c.args.credits c.args.state.now c.deal-deal.new.state c.mask_of.result c.mask_of.new.state c.draw-draw.new.state c.from-pay.result
     c.deal-deal.result c.deal-deal.new.rest.items c.held-hold.result.items c.draw-draw.result.items c.draw-draw.new.rest.items first chosen hold drew pays)

@@ -9,6 +9,7 @@ invariant-loop-event g l = record {
   count : l.games + length l.events ≡ length l.log.events;
   credits : l.credits ≤ 1000000000000 + 500000 * l.games;
   ranked : l.steps ≡ l.fn.steps + l.games;
+  kept : l.kept ≡ l.table;
 }
 
 abbrev pub decreases-loop-event : goal.decreases-loop-event
