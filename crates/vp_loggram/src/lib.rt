@@ -5,7 +5,6 @@ mod event;
 mod events;
 mod laws;
 mod log;
-mod section;
 mod words;
 mod writing;
 

@@ -19,6 +19,6 @@ pub use laws::{hands_are_read, tables_are_read};
 pub use name::Name;
 pub use pattern::{Pattern, Qualifier};
 pub use reading::table_spellings_differ;
-pub use section::{AnyTable, Asked, HasBet, Section, read_input};
+pub use section::{Asked, HasBet, Section, read_input};
 pub use table::{PayLine, PayTable};
 pub use writing::written_tables_are_read;

@@ -43,20 +43,6 @@ pub trait Asked {
         ensures { result ≡ fits self.now table.now };
 }
 
-/// Nothing more is asked.
-#[derive(Clone, Copy, Debug, PartialEq, Eq)]
-pub struct AnyTable;
-
-impl Asked for AnyTable {
-    ghost use Rattle.vp_pay.specs.Inputs.{fits_all};
-
-    ghost fits = { λ any table. fits_all table };
-
-    fn fits(&self, _: &PayTable) -> bool {
-        true
-    }
-}
-
 /// A column for a bet of so many coins is asked for.
 #[derive(Clone, Copy, Debug, PartialEq, Eq)]
 pub struct HasBet {

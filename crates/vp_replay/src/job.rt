@@ -1,20 +1,22 @@
 //! `replay`: what the holds of a lawful log cost.
 
-ghost use Rattle.std.specs.Prelude.{◌≡◌, ◌<◌};
+ghost use Rattle.std.specs.Prelude.{◌≡◌, ◌≤◌, IfOk, length};
+ghost use Rattle.vp_loggram.specs.Logs.{IsLog};
+ghost use Rattle.vp_pay.specs.Reads.{Reads};
 ghost use Rattle.vp_pay.specs.Table.{IsTable};
-ghost use Rattle.vp_replay.specs.Replay.{rule_of, stop_of};
+ghost use Rattle.vp_replay.specs.Replay.{replay_input, rule_of, stop_of};
 ghost use Rattle.vp_replay.specs.Rules.{break_in};
 
-use crate::{Broken, Games, LogRule, lawful, put_replay};
-use std::marker::{Brand, Model};
-use std::sync::ledger::{Blank, Ledger};
+use crate::{Broken, Games, LogRule, put_replay, read_log};
+use std::marker::Model;
 use vp_answer::{Rule, Stop, Work};
 use vp_count::table_words;
 use vp_io::{Sink, WriteFault};
 use vp_loggram::Log;
-use vp_pay::{AnyTable, PayTable, read_input};
+use vp_pay::PayTable;
 use vp_region::Carver;
-use vp_wild::Steps;
+use vp_text::{Lines, Refused};
+use vp_wild::KeptLines;
 
 /// A pay table, and a log of games on it of which none breaks a law.
 #[derive(Drop)]
@@ -43,11 +45,29 @@ impl<'a> ReplayJob<'a> {
         requires { length bytes.now ≤ 67108864 }
         ensures { result ≡ replay_job bytes.now }
     {
-        let (table, log) = read_input::<Log<'a>, AnyTable>(bytes, &AnyTable)?;
-        match first_break(&table, &log) {
+        let (table, log, broken) = read_judged(bytes)?;
+        match broken {
             None => Ok(ReplayJob { table, log }),
             Some(broken) => Err(stop_of(broken)),
         }
+    }
+}
+
+/// The pay table and the log that the bytes say, and the first game of the log that breaks a law. The log is read once.
+#[tactic(auto, unfolding(vp_pay::specs::Inputs::section_input))]
+fn read_judged(bytes: &[u8]) -> Result<(PayTable, Log<'_>, Option<Broken>), Refused>
+    requires { length bytes.now ≤ 67108864 }
+    ensures says { Reads (λ read. (read.0, read.1)) result (replay_input bytes.now) }
+    ensures table { IfOk result (λ read. IsTable read.0) }
+    ensures log { IfOk result (λ read. IsLog read.0.deck read.1) }
+    ensures broken { IfOk result (λ read. read.2 ≡ break_in read.0 read.1) }
+{
+    let mut lines = Lines::new(bytes);
+    let table = PayTable::read(&mut lines)?;
+    let (log, broken) = read_log(&mut lines, &mut KeptLines::new(&table))?;
+    match lines.next() {
+        None => Ok((table, log, broken)),
+        Some(words) => Err(Refused { line: words.line() }),
     }
 }
 
@@ -71,25 +91,6 @@ impl<'a> Work for ReplayJob<'a> {
         let games = Games::of(&self.table, words);
         put_replay(&games, &self.log, sink)
     }
-}
-
-/// The first game of a log that breaks a law, and the law. The hands that are paid are not counted.
-pub fn first_break(table: &PayTable, log: &Log) -> Option<Broken>
-    requires { IsTable table.now }
-    ensures { result ≡ break_in table.now log.now }
-{
-    first_break_of::<Brand>(table, log, Blank::new(1))
-}
-
-/// The same; the blank is for a counter that nobody reads.
-fn first_break_of<L: Ledger>(table: &PayTable, log: &Log, blank: Blank) -> Option<Broken>
-    requires table { IsTable table.now }
-    requires name { blank.name ≡ L.name }
-    requires parts { blank.parts ≡ L.parts }
-    requires share { 0 < blank.parts }
-    ensures { result ≡ break_in table.now log.now }
-{
-    lawful(table, log, &mut Steps::<L>::new(blank)).err()
 }
 
 /// The law of a game, among all rules.

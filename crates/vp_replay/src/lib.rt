@@ -15,7 +15,7 @@ mod summary;
 pub use breaks::lawful;
 pub use costs::{cost, cost_at};
 pub use games::Games;
-pub use job::{ReplayJob, first_break, stop_of};
+pub use job::{ReplayJob, stop_of};
 pub use laws::{
     costs_are_of_the_held_cards, lawful_logs_keep_the_laws, replay_inputs_are_read,
     replays_tell_costs,

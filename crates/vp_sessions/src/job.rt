@@ -2,7 +2,6 @@
 
 ghost use Rattle.std.specs.Prelude.{◌≡◌, ◌+◌, ◌<◌, ◌≤◌, ◌∷◌, [], IfOk, codes, if◌then◌else◌, is_some, length};
 ghost use Rattle.std.specs.Fmt.{decimal};
-ghost use Rattle.vp_card.specs.Cards.{IsDeck};
 ghost use Rattle.vp_io.specs.Puts.{Puts};
 ghost use Rattle.vp_loggram.specs.Logs.{IsLog};
 ghost use Rattle.vp_pay.specs.Table.{IsTable};
@@ -23,8 +22,9 @@ use vp_lines::{Word, put_words};
 use vp_loggram::Log;
 use vp_pay::{Name, PayTable};
 use vp_region::Carver;
-use vp_replay::{Broken, Games, first_break, put_replay, stop_of};
+use vp_replay::{Broken, Games, put_replay, read_log, stop_of};
 use vp_text::Lines;
+use vp_wild::KeptLines;
 
 /// A pay table, and the CSV text behind it.
 #[derive(Drop)]
@@ -143,12 +143,12 @@ fn put_sessions<K: Sink>(
     ensures unlawful { IfOk result (λ count. count ≡ unlawful games.now sessions.now.sessions) }
 {
     let table = games.table();
+    let mut kept = KeptLines::new(table);
     let count = sessions.count();
     let mut unlawful = 0;
     for place in 0..count {
-        let log = log_at(sessions, place, table.deck);
-        let broken = first_break(table, &log);
-        put_session(games, &sessions.name(place), &log, broken, sink)?;
+        let (log, broken) = log_at(sessions, place, &mut kept);
+        put_session(games, sessions.name(place), &log, broken, sink)?;
         unlawful = counted(unlawful, broken);
     }
     put_count(count, unlawful, sink)?;
@@ -178,15 +178,22 @@ fn put_count<K: Sink>(count: u32, unlawful: u32, sink: &mut K) -> Result<(), Wri
     put_words(&words, sink)
 }
 
-/// The log of a session, with cards of a deck of so many.
-fn log_at<'a>(sessions: &'a Sessions, place: u32, deck: u8) -> Log<'a>
+/// The log of a session, with cards of the deck of the table whose pay lines are kept, and its first game that breaks a
+/// law. The log is read once.
+fn log_at<'a>(
+    sessions: &'a Sessions,
+    place: u32,
+    kept: &mut KeptLines,
+) -> (Log<'a>, Option<Broken>)
     requires place { place < length sessions.now.sessions }
-    requires deck { sessions.now.deck ≡ deck }
-    requires known { IsDeck deck }
-    ensures log { result ≡ (session_at sessions.now place).log }
-    ensures grammar { IsLog deck result }
+    requires deck { sessions.now.deck ≡ kept.old.deck }
+    requires table { IsTable kept.old }
+    ensures log { result.0 ≡ (session_at sessions.now place).log }
+    ensures grammar { IsLog kept.old.deck result.0 }
+    ensures broken { result.1 ≡ break_in kept.old result.0 }
+    ensures same { kept.new ≡ kept.old }
 {
-    Log::read(&mut Lines::new(sessions.log(place)), deck).unwrap()
+    read_log(&mut Lines::new(sessions.log(place)), kept).unwrap()
 }
 
 /// Puts the lines of a session, whose log has this for its first break.
