@@ -6,6 +6,7 @@ use Rattle.vp_text.specs.ExactReaders.{Keeps}
 use Rattle.vp_text.specs.Lines.{Word, is_empty}
 use Rattle.vp_text.specs.Numbers.{number_of, number_within}
 use Rattle.vp_text.specs.Pieces.{◌>>=◌}
+use Rattle.vp_text.specs.Streams.{passing}
 use Rattle.vp_pay.specs.Names.{is_name}
 use Rattle.vp_loggram.specs.Logs.{is_of_deck}
 use Rattle.vp_loggram.specs.declared.event.Event.{Event}
