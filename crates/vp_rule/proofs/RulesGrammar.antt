@@ -1,15 +1,13 @@
 -- Rules and exceptions: each is read from its words, and from no others.
-use Rattle.std.proofs.Common.{◌≡◌, ℕ, ◌<◌, ◌≤◌, true, ◌&&◌, List, [], ◌∷◌, ◌++◌, map, length, refl, sym, ap, ◌∙◌, arith, Some, None}
+use Rattle.std.proofs.Common.{◌≡◌, ℕ, ◌<◌, ◌≤◌, true, ◌&&◌, List, [], ◌∷◌, length, refl, sym, ap, ◌∙◌, arith, Some}
 use Rattle.std.specs.Prelude.{codes, flat_map}
 use Rattle.std.specs.Fmt.{decimal}
 use Rattle.std.proofs.lemmas.List.Elements.{All-from_recursion}
 use Rattle.vp_card.specs.Cards.{IsDeck, in_deck, rises}
-use Rattle.vp_card.specs.Texts.{card_text}
-use Rattle.vp_card.specs.Reading.{card_of}
 use Rattle.vp_card.proofs.InDeck.{all_below, below_all, below_more}
 use Rattle.vp_card.proofs.Rises.{rises-increasing, increasing-rises}
 use Rattle.vp_text.specs.Lines.{Word}
-use Rattle.vp_text.specs.Pieces.{AreUpTo, so_many, up_to_end}
+use Rattle.vp_text.specs.Pieces.{AreUpTo, up_to_end}
 use Rattle.vp_text.specs.ExactReaders.{ExactText}
 use Rattle.vp_text.proofs.Numbers.{number_within_exact}
 use Rattle.vp_text.proofs.Pieces.{both_true, bound, no_value, so, took, Exact-key_word, Exact-one_word, Exact-so_many}
@@ -20,7 +18,6 @@ use Rattle.vp_pay.proofs.Tables.{of_all}
 use Rattle.vp_pay.specs.Table.{IsTable}
 use Rattle.vp_pay.specs.declared.table.PayTable.{PayTable}
 use Rattle.vp_suit.specs.Classes.{IsDeal, is_representative}
-use Rattle.vp_rule.specs.Lists.{Exception}
 use Rattle.vp_rule.specs.Reading.{digit, stands, exception_of, rule_from, rule_of, test_behind}
 use Rattle.vp_rule.specs.Spelling.{except_words, rule_words, test_words}
 use Rattle.vp_rule.specs.Valid.{IsTest, IsRule, IsException}
@@ -87,8 +84,7 @@ Exact-exception n deck =
     let parts = both_true (rises e.0) (in_deck n e.0) both.0 in
     record { deal = rising_deal n e.0 is.0.0.count parts.0 parts.1; representative = both.1; mask = omega (arith, is.0.1.1) })
     (λ e is.
-    let below = of_all (λ card. card < n) e.0 is.deal.set.below in
-    (
+    let below = of_all (λ card. card < n) e.0 is.deal.set.below in (
       (record { count = is.deal.five; all = below_more n 54 e.0 deck.1 below }, (omega arith, omega (arith, is.mask))),
       rw (increasing-rises e.0 is.deal.set.rising, below_all n e.0 below, is.representative) refl,
     ))
