@@ -10,7 +10,8 @@ use Rattle.vp_pay.specs.declared.table.PayTable.{PayTable}
 use Rattle.vp_loggram.specs.Logs.{IsLog, LogValue}
 use Rattle.vp_loggram.specs.Sections.{log_at, log_read}
 use Rattle.vp_loggram.specs.Spelling.{log_text}
-use Rattle.vp_loggram.proofs.Logs_grammar.{Exact-log, log_read-is, only_log}
+use Rattle.vp_text.proofs.Answered.{only}
+use Rattle.vp_loggram.proofs.Logs_grammar.{Exact-log, log_read-is}
 use Rattle.vp_loggram.specs.declared.event.Event.{Event}
 use Rattle.vp_replay.specs.declared.rule.Breach.{Breach}
 use Rattle.vp_replay.specs.declared.rule.Broken.{Broken}
@@ -64,9 +65,9 @@ same_read table a log b same is = rw (is, same) refl
 pub only_read : (table : PayTable) → IsDeck table.deck → (result : Read) (before left : Feed) → GivesLog result left (log_at table.deck before) → IfOk result (λ read. read.1 ≡ break_in table read.0)
     → (log : LogValue) (rest : Feed) → IsLog table.deck log → Starts log_text before log rest → (result ≡ Ok (log, break_in table log)) × (left ≡ rest)
 only_read table deck (Ok read) before left gives broken log rest is starts =
-    let only = only_log table.deck deck (Ok read.0) before left gives log rest is starts in
-    let one = only.0 in
+    let same_log = only (Exact-log table.deck deck) (Ok read.0) before left gives log rest is starts in
+    let one = same_log.0 in
     let same : read.0 ≡ log = cc in
-    (ap (λ (r : LogValue × Option Broken). Ok r) (same_read table read.0 log read.1 same broken), only.1)
+    (ap (λ (r : LogValue × Option Broken). Ok r) (same_read table read.0 log read.1 same broken), same_log.1)
 only_read table deck (Err e) before left gives broken log rest is starts =
-    absurd (let only = only_log table.deck deck (Err e) before left gives log rest is starts in let one = only.0 in cc)
+    absurd (let same_log = only (Exact-log table.deck deck) (Err e) before left gives log rest is starts in let one = same_log.0 in cc)

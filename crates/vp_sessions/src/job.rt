@@ -187,11 +187,7 @@ fn put_count<K: Sink>(count: u32, unlawful: u32, sink: &mut K) -> Result<(), Wri
 
 /// The log of a session, with cards of the deck of the table whose pay lines are kept, and its first game that breaks a
 /// law. The log is read once.
-fn log_at<'a>(
-    sessions: &'a Sessions,
-    place: u32,
-    kept: &mut KeptLines,
-) -> (Log<'a>, Option<Broken>)
+fn log_at<'a>(sessions: &'a Sessions, place: u32, kept: &mut KeptLines) -> (Log<'a>, Option<Broken>)
     requires place { place < length sessions.now.sessions }
     requires deck { sessions.now.deck ≡ kept.old.deck }
     requires table { IsTable kept.old }

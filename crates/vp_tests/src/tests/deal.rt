@@ -226,11 +226,23 @@ fn lent_words(rt: HostRuntime) -> Result<(), Fail> {
     assert_eq!(rt; words_to_lend(made, JACKS), Err(Status::NoMemory));
     let cases: [(&[&str], &[u8], usize, Status, &[u8]); 6] = [
         (&["deal", "1"], &input, 2_893_163, Status::NoMemory, b""),
-        (&["deal", "1"], &input, 2_893_164, Status::Done, ROYAL_DRAW_ANSWER),
+        (
+            &["deal", "1"],
+            &input,
+            2_893_164,
+            Status::Done,
+            ROYAL_DRAW_ANSWER,
+        ),
         (&["deal", "2"], &input, 0, Status::Refused, b"refused 14\n"),
         (&["deal"], &input, 0, Status::Usage, b"usage\n"),
         (made, JACKS, 2_893_164, Status::NoMemory, b""),
-        (&["check", "1", "0"], JACKS, 0, Status::Refused, b"refused 15\n"),
+        (
+            &["check", "1", "0"],
+            JACKS,
+            0,
+            Status::Refused,
+            b"refused 15\n",
+        ),
     ];
     for (words, bytes, lent, due, text) in cases {
         let mut room = [0; 512];
