@@ -9,16 +9,16 @@ loop-place-init g c = record { put = put_same (all_left c.args.games.now c.args.
 
 pub returns-in_err-put_session-clause-puts : goal.returns-in_err-put_session-clause-puts
 returns-in_err-put_session-clause-puts g c =
-    put_halted _ (session_next c.args.games.now c.args.sessions.now c.loop-place.place c.name.result.now c.log_at.result.0 (omega (arith, c.loop-place-test.true, c.count-count.ensures.value)) c.name.ensures c.log_at.ensures.log)
+    put_halted _ (session_next c.args.games.now c.args.sessions.now c.loop-place.place c.name.result.now c.log_at-log.result.0 (omega (arith, c.loop-place-test.true, c.count-count.ensures.value)) c.name.ensures c.log_at-log.ensures.log)
     c.in_err-put_session.was c.from_residual.ensures.0 c.put_session.ensures c.loop-place.invariant.put
 
 pub loop-place-preserved : goal.loop-place-preserved
 loop-place-preserved g c = record {
-  put = put_more (session_next c.args.games.now c.args.sessions.now c.loop-place.place c.name.result.now c.log_at.result.0 (omega (arith, c.loop-place-test.true, c.count-count.ensures.value)) c.name.ensures c.log_at.ensures.log)
+  put = put_more (session_next c.args.games.now c.args.sessions.now c.loop-place.place c.name.result.now c.log_at-log.result.0 (omega (arith, c.loop-place-test.true, c.count-count.ensures.value)) c.name.ensures c.log_at-log.ensures.log)
       c.in_ok-put_session.was c.put_session.ensures c.loop-place.invariant.put;
-  unlawful = counted_next c.args.games.now c.args.sessions.now c.loop-place.place c.loop-place.unlawful c.counted-unlawful.result c.log_at.result.0 c.log_at.result.1
-      (omega (arith, c.loop-place-test.true, c.count-count.ensures.value)) c.log_at.ensures.log (rw (c.loop-place.invariant.kept) at c.log_at.ensures.broken) c.counted-unlawful.ensures c.loop-place.invariant.unlawful;
-  kept = c.log_at.ensures.same ∙ c.loop-place.invariant.kept;
+  unlawful = counted_next c.args.games.now c.args.sessions.now c.loop-place.place c.loop-place.unlawful c.counted-unlawful.result c.log_at-log.result.0 c.log_at-log.result.1
+      (omega (arith, c.loop-place-test.true, c.count-count.ensures.value)) c.log_at-log.ensures.log (rw (c.loop-place.invariant.kept) at c.log_at-log.ensures.broken) c.counted-unlawful.ensures c.loop-place.invariant.unlawful;
+  kept = c.log_at-log.ensures.same ∙ c.loop-place.invariant.kept;
 }
 
 pub returns-in_err-put_count-clause-puts : goal.returns-in_err-put_count-clause-puts
