@@ -8,7 +8,7 @@ use Rattle.vp_text.specs.Reading.{next_is, one_line, both, rows, mapped}
 use Rattle.vp_text.specs.Numbers.{number_of, number_within}
 use Rattle.vp_text.specs.Pieces.{Piece, ◌>>=◌, one_word, so_many, key_word}
 use Rattle.vp_text.specs.Streams.{passing}
-use Rattle.vp_text.specs.Sequences.{◌>>◌, after, all_of}
+use Rattle.vp_text.specs.Sequences.{◌>>◌, after, all_of, keyed}
 use Rattle.vp_text.specs.ExactReaders.{Reader}
 use Rattle.vp_pay.specs.Sections.{table_at}
 use Rattle.vp_pay.specs.declared.table.PayTable.{PayTable}

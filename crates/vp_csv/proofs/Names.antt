@@ -1,7 +1,7 @@
 -- The names of records: a name is one of them exactly where a record has it.
-use Rattle.std.proofs.Common.{◌≡◌, ◌⊎◌, inl, inr, Bool, true, false, cond, ◌||◌, List, [], ◌∷◌, ◌++◌, refl, sym, ◌∙◌, subst}
+use Rattle.std.proofs.Common.{◌≡◌, ◌⊎◌, inl, inr, Bool, true, false, cond, not, ◌||◌, ◌&&◌, List, [], ◌∷◌, ◌++◌, refl, sym, ◌∙◌, subst}
 use Rattle.std.specs.Prelude.{bytes_eq}
-use Rattle.std.specs.List.{list_any}
+use Rattle.std.specs.List.{AllByRecursion, list_any}
 use Rattle.std.proofs.lemmas.Bool.{cases_Bool}
 use Rattle.std.proofs.lemmas.List.Elements.{filter-append}
 use Rattle.std.proofs.lemmas.List.Folds.{list_any-append}
@@ -11,6 +11,7 @@ use Rattle.vp_text.proofs.Pieces.{same_bytes}
 use Rattle.vp_csv.specs.Records.{Record}
 use Rattle.vp_csv.specs.Rules.{knows, name_of, names_behind, names_of, with_name}
 use Rattle.vp_csv.specs.Sessions.{own}
+use Rattle.vp_csv.specs.Naming.{AllDiffer, AreNames, earlier}
 
 -- ---- one more record
 
@@ -101,10 +102,6 @@ unknown name names (r ∷ rs) h = elim (cases_Bool (bytes_eq name (name_of r))) 
 
 -- ---- no name stands twice
 
-abbrev pub AllDiffer : List Word → Type 0
-AllDiffer [] = Unit {0}
-AllDiffer (name ∷ names) = (knows name names ≡ false) × AllDiffer names
-
 neither : (a b : Bool) → (a || b) ≡ false → (a ≡ false) × (b ≡ false)
 neither true b e = absurd cc
 neither false b e = (refl, e)
@@ -128,3 +125,70 @@ all_differ names (r ∷ rs) differ = all_differ (with_name names (name_of r)) rs
 
 pub names_differ : (rs : List Record) → AllDiffer (names_of rs)
 names_differ rs = all_differ [] rs tt
+
+-- ---- the names of records
+
+all_known : (names : List Word) (rs : List Record) → AllByRecursion (λ r. knows (name_of r) (names_behind names rs) ≡ true) rs
+unfolding names_behind
+all_known names [] = tt
+all_known names (r ∷ rs) = (stays_all (λ n. bytes_eq n (name_of r)) (with_name names (name_of r)) rs (comes names (name_of r)), all_known (with_name names (name_of r)) rs)
+
+both : (a b : Bool) → (not a && b) ≡ true → (a ≡ false) × (b ≡ true)
+both true b e = absurd cc
+both false b e = (refl, e)
+
+-- the first stands among items of which none is the second
+alone : (first second : Word → Bool) (names : List Word) → list_any first names ≡ true → list_any second names ≡ false → earlier first second names ≡ true
+alone first second [] some none = absurd cc
+alone first second (name ∷ names) some none =
+    let no = neither (second name) (list_any second names) none in
+    elim (cases_Bool (first name)) [
+      | inl is ↦ rw (no.0, is) refl
+      | inr other ↦ let rest : list_any first names ≡ true = rw other at some in rw (no.0, other) (alone first second names rest no.1)
+    ]
+
+-- it stays so when more names follow
+earlier_more : (first second : Word → Bool) (names : List Word) (name : Word) → earlier first second names ≡ true → earlier first second (names ++ name ∷ []) ≡ true
+earlier_more first second [] name e = absurd cc
+earlier_more first second (n ∷ names) name e =
+    let parts = both (second n) (first n || earlier first second names) e in
+    elim (cases_Bool (first n)) [
+      | inl is ↦ rw (parts.0, is) refl
+      | inr other ↦ let rest : earlier first second names ≡ true = rw other at parts.1 in rw (parts.0, other) (earlier_more first second names name rest)
+    ]
+
+earlier_with : (first second : Word → Bool) (names : List Word) (name : Word) → earlier first second names ≡ true → earlier first second (with_name names name) ≡ true
+earlier_with first second names name e = elim (knows name names) as (λ b. earlier first second (cond b names (names ++ name ∷ [])) ≡ true) [
+  | true ↦ e
+  | false ↦ earlier_more first second names name e
+]
+
+earlier_behind : (first second : Word → Bool) (names : List Word) (rs : List Record) → earlier first second names ≡ true → earlier first second (names_behind names rs) ≡ true
+unfolding names_behind
+earlier_behind first second names [] e = e
+earlier_behind first second names (r ∷ rs) e = earlier_behind first second (with_name names (name_of r)) rs (earlier_with first second names (name_of r) e)
+
+none_with : (second : Word → Bool) (names : List Word) (name : Word) → second name ≡ false → list_any second names ≡ false → list_any second (with_name names name) ≡ false
+none_with second names name differs none = elim (knows name names) as (λ b. list_any second (cond b names (names ++ name ∷ [])) ≡ false) [
+  | true ↦ none
+  | false ↦ list_any-append second names (name ∷ []) ∙ rw (none, differs) refl
+]
+
+in_order : (a b : Word) (names : List Word) (rs : List Record) → knows b names ≡ false → earlier (λ (r : Record). bytes_eq (name_of r) a) (λ (r : Record). bytes_eq (name_of r) b) rs ≡ true
+    → earlier (λ (name : Word). bytes_eq name a) (λ (name : Word). bytes_eq name b) (names_behind names rs) ≡ true
+unfolding names_behind
+in_order a b names [] none e = absurd cc
+in_order a b names (r ∷ rs) none e =
+    let parts = both (bytes_eq (name_of r) b) (bytes_eq (name_of r) a || earlier (λ (r : Record). bytes_eq (name_of r) a) (λ (r : Record). bytes_eq (name_of r) b) rs) e in
+    let late = none_with (λ (name : Word). bytes_eq name b) names (name_of r) parts.0 none in
+    elim (cases_Bool (bytes_eq (name_of r) a)) [
+      | inl is ↦
+          let same : name_of r ≡ a = (bytes_eq-Decides (name_of r) a).0 is in
+          let there : knows a (with_name names (name_of r)) ≡ true = subst (λ (n : Word). knows n (with_name names (name_of r)) ≡ true) same (comes names (name_of r)) in
+          earlier_behind (λ (name : Word). bytes_eq name a) (λ (name : Word). bytes_eq name b) (with_name names (name_of r)) rs (alone (λ (name : Word). bytes_eq name a) (λ (name : Word). bytes_eq name b) (with_name names (name_of r)) there late)
+      | inr other ↦ in_order a b (with_name names (name_of r)) rs late (rw other at parts.1)
+    ]
+
+-- each stands once, each record's is among them, and they stand in the order of their first records
+pub names_are_of : (rs : List Record) → AreNames rs (names_of rs)
+names_are_of rs = record { once = names_differ rs; all = all_known [] rs; order = λ a b e. in_order a b [] rs refl e }

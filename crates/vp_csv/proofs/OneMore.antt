@@ -14,7 +14,8 @@ use Rattle.vp_csv.specs.Records.{Record}
 use Rattle.vp_csv.specs.Rules.{game_of, knows, name_of, names_of, start_of}
 use Rattle.vp_csv.specs.Sessions.{games_of, log_of, or_zero, own}
 use Rattle.vp_csv.specs.Kept.{Kept, game_line, is_kept, kept_in, kept_of, names_kept, open_text, opened, start_line, updated, with_text, with_text_for}
-use Rattle.vp_csv.proofs.Names.{AllDiffer, IsOpened, known, names_differ, names_more, own_more, unknown}
+use Rattle.vp_csv.specs.Naming.{AllDiffer}
+use Rattle.vp_csv.proofs.Names.{IsOpened, known, names_differ, names_more, own_more, unknown}
 
 -- ---- the text of a session
 

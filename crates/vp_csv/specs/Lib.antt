@@ -5,3 +5,4 @@ pub mod Sessions
 pub mod Kept
 pub mod Left
 pub mod Spelling
+pub mod Naming

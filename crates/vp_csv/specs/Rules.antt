@@ -6,8 +6,9 @@ use Rattle.vp_text.specs.ExactReaders.{Keeps}
 use Rattle.vp_text.specs.Lines.{Word, is_empty}
 use Rattle.vp_text.specs.Numbers.{number_of, number_within}
 use Rattle.vp_text.specs.Pieces.{◌>>=◌}
+use Rattle.vp_text.specs.Streams.{passing}
 use Rattle.vp_pay.specs.Names.{is_name}
-use Rattle.vp_loggram.specs.Reading.{of_deck}
+use Rattle.vp_loggram.specs.Logs.{is_of_deck}
 use Rattle.vp_loggram.specs.declared.event.Event.{Event}
 use Rattle.vp_csv.specs.Records.{Record, records_in}
 use Rattle.vp_csv.specs.Fields.{Row, row_of, cards_of, five_of}
@@ -56,7 +57,7 @@ game_in n r = do
   draw ← cards_of r.draw
   pay ← number_of r.pay
   credits ← number_of r.credits
-  of_deck n (record { bet = bet; deal = deal; hold = record { items = hold }; draw = record { items = draw }; pay = pay; credits = credits })
+  passing (is_of_deck n) (Some (record { bet = bet; deal = deal; hold = record { items = hold }; draw = record { items = draw }; pay = pay; credits = credits }))
 
 -- the same, of a game record
 unfoldable pub game_of : ℕ → Record → Option Event

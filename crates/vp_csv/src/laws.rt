@@ -4,8 +4,9 @@ ghost use Rattle.vp_card.specs.Cards.{IsDeck};
 ghost use Rattle.vp_text.specs.Lines.{Word};
 ghost use Rattle.vp_loggram.specs.Logs.{IsEvent};
 ghost use Rattle.vp_loggram.specs.declared.event.Event.{Event};
+ghost use Rattle.vp_csv.specs.Naming.{AreNames};
 ghost use Rattle.vp_csv.specs.Records.{Field, Record};
-ghost use Rattle.vp_csv.specs.Rules.{BreaksFirst, KeepRules, first_break, game_of, is_header, start_of};
+ghost use Rattle.vp_csv.specs.Rules.{BreaksFirst, KeepRules, first_break, game_of, is_header, names_of, start_of};
 ghost use Rattle.vp_csv.specs.Sessions.{AreAlike, own, session_at, session_of, sorted};
 ghost use Rattle.vp_csv.specs.Spelling.{game_fields, header, opening_fields};
 
@@ -32,4 +33,10 @@ pub fn first_breaks_are_refused()
     ensures none { (n : ℕ) (all : List Record) → first_break n all ≡ None ↔ KeepRules n all }
     ensures first { (n : ℕ) (all : List Record) (place : ℕ)
         → first_break n all ≡ Some place ↔ BreaksFirst n all place }
+{}
+
+/// What the names of sessions are: each stands once; that of each record is among them; and of two names the one whose
+/// first record comes earlier stands first.
+pub fn names_stand_in_order()
+    ensures { (rs : List Record) → AreNames rs (names_of rs) }
 {}

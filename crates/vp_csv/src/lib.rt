@@ -10,6 +10,8 @@ mod row;
 mod sessions;
 mod stop;
 
-pub use laws::{first_breaks_are_refused, records_are_spelled, sessions_are_apart};
+pub use laws::{
+    first_breaks_are_refused, names_stand_in_order, records_are_spelled, sessions_are_apart,
+};
 pub use sessions::Sessions;
 pub use stop::CsvStop;

@@ -35,7 +35,8 @@ impl Model for PlayJob {
 
     ghost view = { λ j. record { table = j.table; coin = j.coin; seed = j.seed; games = j.games } };
 
-    ghost invariant = { λ j. IsPlayed (record { table = j.table; coin = j.coin; seed = j.seed; games = j.games }) };
+    ghost invariant = { λ j. IsPlayed
+        (record { table = j.table; coin = j.coin; seed = j.seed; games = j.games }) };
 }
 
 impl PlayJob {
@@ -70,7 +71,8 @@ impl PlayJob {
     /// sums of that bet are the only ones that are made.
     fn summary(&self, alloc: Global, words: &mut [u64]) -> Result<Summary, AllocError>
         requires { length words.old ≡ first_word self.now.table.deck 6 }
-        ensures { IfOk result (λ summary. summary ≡ summary_of self.now.table (log_of self.now)) }
+        ensures { IfOk result
+            (λ summary. summary ≡ summary_of self.now.table (log_of self.now)) }
     {
         let game = Game::of(&self.table, self.coin, words);
         let text = make_log(alloc, &game, self.seed, self.games)?;
@@ -127,7 +129,8 @@ fn put_played<K: Sink>(
     sink: &mut K,
 ) -> Result<(), WriteFault>
     requires { IsDeck deck }
-    ensures { Puts (K.told sink.old) (K.told sink.new) result (written (played_lines deck seed games summary.now)) }
+    ensures { Puts (K.told sink.old) (K.told sink.new) result
+        (written (played_lines deck seed games summary.now)) }
 {
     let first = [
         Word::Text(b"play"),

@@ -28,7 +28,7 @@ unfolding first_line
 inside table hand j e = (position-Some (λ (l : PayLine). line_matches table.wild l hand) table.lines.items j nothing e).0
 
 -- it is one of at most 32 lines
-few_lines : (table : PayTable) (hand : List ℕ) → IsTable table → IfSome (line table hand) (λ place. place < 32)
+pub few_lines : (table : PayTable) (hand : List ℕ) → IsTable table → IfSome (line table hand) (λ place. place < 32)
 few_lines table hand t = by_line (line table hand) refl
   where
     by_line : (o : Option ℕ) → line table hand ≡ o → IfSome o (λ place. place < 32)

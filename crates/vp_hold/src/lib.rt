@@ -9,7 +9,8 @@ mod scales;
 mod squares;
 
 pub use game::Game;
-pub use line_numbers::{number_means, place_of};
+pub use line_numbers::{number_means, place_of, write_numbers};
 pub use means::HoldMeans;
+pub use payments::payments_of;
 pub use squares::Squares;
 pub use vp_draws::Best;

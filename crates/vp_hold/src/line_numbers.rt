@@ -54,7 +54,7 @@ pub fn number_means<'a, L: Ledger>(
 
 /// Writes, at the index of each set of five cards of the deck, the number of the hand's line. One step of the counter for
 /// each hand.
-fn write_numbers<L: Ledger>(
+pub fn write_numbers<L: Ledger>(
     table: &PayTable,
     numbers: &[u64; 33],
     words: &mut [u64],

@@ -29,7 +29,7 @@ pub(crate) fn payment_means<'a, L: Ledger>(
 }
 
 /// What each pay line pays for a bet, and none.
-fn payments_of(table: &PayTable, coin: u8) -> [u64; 33]
+pub fn payments_of(table: &PayTable, coin: u8) -> [u64; 33]
     requires some { 1 ≤ coin }
     requires most { coin ≤ 5 }
     ensures bounded { All (λ x. x ≤ 250000000000) result }

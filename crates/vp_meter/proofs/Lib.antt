@@ -2,6 +2,7 @@ pub mod Words
 pub mod Graphs
 pub mod Told
 pub mod Straight
+pub mod LineNumbers
 pub mod WholeSums
 pub mod MeteredValues
 pub mod Choices

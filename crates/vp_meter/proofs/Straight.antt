@@ -67,13 +67,13 @@ nothing = record { name = []; pattern = Royal; qualifier = Either; pays = [] }
 column_changed : (coin x coins : ℕ) (l : PayLine) → IsPayLine coins l → 1 ≤ coin → coin ≤ 5 → slice_index (paying coin x l).pays (coin - 1) ≡ x
 column_changed coin x coins l rules from to = let five = rules.pays.columns in get_or-set_same l.pays (coin - 1) x 0 (omega arith)
 
-different_lines : (i place : ℕ) → i ≢ place → (i == place) ≡ false
+pub different_lines : (i place : ℕ) → i ≢ place → (i == place) ≡ false
 different_lines i place other = grind (arith, nat_tests)
 
-same_line : (i place : ℕ) → i ≡ place → (i == place) ≡ true
+pub same_line : (i place : ℕ) → i ≡ place → (i == place) ≡ true
 same_line i place same = grind (arith, nat_tests)
 
-equal_or_not : (i place : ℕ) → (i ≡ place) ⊎ (i ≢ place)
+pub equal_or_not : (i place : ℕ) → (i ≡ place) ⊎ (i ≢ place)
 equal_or_not i place = grind arith
 
 paid_by : (coin place x : ℕ) (table : PayTable) (hand : List ℕ) → IsBet table coin → place < length table.lines.items → (o : Option ℕ) → line table hand ≡ o
@@ -235,11 +235,3 @@ pay_is coin place x table hand bet inside = pay_changed coin place x table hand 
     by_test : (b : Bool) (p : ℕ) → (if b then 0 else p) + x * (if b then 1 else 0) ≡ (if b then x else p)
     by_test true p = omega arith
     by_test false p = omega arith
-
--- what is made of the line that was found
-pub base_is : (table told : PayTable) (coin place : ℕ) (hand : List ℕ) (found : Option ℕ) (r : ℕ) → told ≡ table → found ≡ line table hand
-    → ((h : List ℕ) → line told h ≡ found → r ≡ (if is_line place found then 0 else pay told coin h)) → r ≡ base_pay table coin place hand
-base_is table told coin place hand found r same is gives = gives hand (ap (λ (t : PayTable). line t hand) same ∙ sym is) ∙ rw (is, same) refl
-
-pub hit_is : (table : PayTable) (place : ℕ) (hand : List ℕ) (found : Option ℕ) (r : ℕ) → found ≡ line table hand → r ≡ (if is_line place found then 1 else 0) → r ≡ hit table place hand
-hit_is table place hand found r is gives = gives ∙ rw is refl

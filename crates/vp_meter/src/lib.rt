@@ -2,6 +2,7 @@
 //! and what the game returns at every whole payment.
 #![tactic(auto)]
 
+mod hand_numbers;
 mod hold_lines;
 mod job;
 mod laws;
@@ -12,7 +13,6 @@ mod pieces;
 mod report;
 mod segment;
 mod tallies;
-mod writing;
 
 pub use job::MeterJob;
 pub use laws::{meters_tell_every_deal, pieces_sum_all_deals, values_are_straight_lines};

@@ -10,8 +10,8 @@ ghost use Rattle.vp_meter.specs.Segments.{worth};
 ghost use Rattle.vp_pay.specs.Bets.{IsBet};
 ghost use Rattle.vp_sets.specs.Sets.{choose};
 
+use crate::hand_numbers::write_parts;
 use crate::hold_lines::HoldLines;
-use crate::writing::write_parts;
 use std::marker::{Brand, Model};
 use std::sync::ledger::{Blank, Ledger};
 use vp_card::Hand;

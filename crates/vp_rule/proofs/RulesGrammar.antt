@@ -1,26 +1,24 @@
 -- Rules and exceptions: each is read from its words, and from no others.
-use Rattle.std.proofs.Common.{◌≡◌, ℕ, ◌<◌, ◌≤◌, true, ◌&&◌, List, [], ◌∷◌, ◌++◌, map, length, refl, sym, ap, ◌∙◌, arith, Some, None}
+use Rattle.std.proofs.Common.{◌≡◌, ℕ, ◌<◌, ◌≤◌, true, ◌&&◌, List, [], ◌∷◌, length, refl, sym, ap, ◌∙◌, arith, Some}
 use Rattle.std.specs.Prelude.{codes, flat_map}
 use Rattle.std.specs.Fmt.{decimal}
 use Rattle.std.proofs.lemmas.List.Elements.{All-from_recursion}
 use Rattle.vp_card.specs.Cards.{IsDeck, in_deck, rises}
-use Rattle.vp_card.specs.Texts.{card_text}
-use Rattle.vp_card.specs.Reading.{card_of}
 use Rattle.vp_card.proofs.InDeck.{all_below, below_all, below_more}
 use Rattle.vp_card.proofs.Rises.{rises-increasing, increasing-rises}
 use Rattle.vp_text.specs.Lines.{Word}
-use Rattle.vp_text.specs.Pieces.{AreUpTo, so_many, up_to_end}
+use Rattle.vp_text.specs.Pieces.{AreUpTo, up_to_end}
 use Rattle.vp_text.specs.ExactReaders.{ExactText}
 use Rattle.vp_text.proofs.Numbers.{number_within_exact}
-use Rattle.vp_text.proofs.Pieces.{at_end, both_true, bound, chosen, no_value, so, took, Exact-key_word, Exact-one_word, Exact-so_many}
+use Rattle.vp_text.proofs.Pieces.{both_true, bound, no_value, so, took, Exact-key_word, Exact-one_word, Exact-so_many}
+use Rattle.vp_text.proofs.Sequences.{Exact-after, Exact-all_of, Exact-also, Exact-passing, Exact-then}
 use Rattle.vp_text.proofs.UpTo.{Exact-up_to_end}
 use Rattle.vp_pay.proofs.Deals.{Exact-card}
 use Rattle.vp_pay.proofs.Tables.{of_all}
 use Rattle.vp_pay.specs.Table.{IsTable}
 use Rattle.vp_pay.specs.declared.table.PayTable.{PayTable}
 use Rattle.vp_suit.specs.Classes.{IsDeal, is_representative}
-use Rattle.vp_rule.specs.Lists.{Exception}
-use Rattle.vp_rule.specs.Reading.{digit, standing, exception_of, rule_from, rule_of, test_behind}
+use Rattle.vp_rule.specs.Reading.{digit, stands, exception_of, rule_from, rule_of, test_behind}
 use Rattle.vp_rule.specs.Spelling.{except_words, rule_words, test_words}
 use Rattle.vp_rule.specs.Valid.{IsTest, IsRule, IsException}
 use Rattle.vp_rule.specs.declared.rule.Rule.{Rule}
@@ -75,42 +73,18 @@ rising_deal n cards five rise below = record {
 Exact-mask : ExactText decimal (λ mask. (0 ≤ mask) × (mask ≤ 31)) (digit 31)
 Exact-mask = number_within_exact 0 31 (omega arith)
 
-exception_joined : (words w1 w2 w3 : List Word) (key : Word) (cards : List Word) (mask : Word) → words ≡ key ∷ w1 → w1 ≡ cards ++ w2 → w2 ≡ mask ∷ w3 → w3 ≡ [] → key ∷ cards ++ mask ∷ [] ≡ words
-exception_joined words w1 w2 w3 key cards mask e1 e2 e3 e4 = rw (e1, e2, e3, e4)
-
-exception_taken : (n : ℕ) (words : List Word) (e : Exception) → exception_of n words ≡ Some e → IsException n e × (except_words e ≡ words)
-unfolding exception_of except_words
-exception_taken n words e read =
-    let key = bound _ _ _ read in
-    let cards = bound _ _ _ key.then in
-    let mask = bound _ _ _ cards.then in
-    let made = bound _ _ _ mask.then in
-    let end = at_end _ _ _ made.first in
-    let k = took (Exact-key_word (codes "except")) words key.value key.first in
-    let c = took (Exact-so_many Exact-card 5) key.value.1 cards.value cards.first in
-    let m = took (Exact-one_word Exact-mask) cards.value.1 mask.value mask.first in
-    let l : Exception = (cards.value.0, mask.value.0) in
-    let P : Exception → Type 0 = λ e. IsException n e × (except_words e ≡ words) in
-    let then : standing n l ≡ Some e = ap (standing n) end.1 ∙ made.then in
-    chosen P ((rises l.0 && in_deck n l.0) && is_representative l.0) (Some l) None e then
-    (λ is x.
-    let both = both_true (rises l.0 && in_deck n l.0) (is_representative l.0) is in
-    let parts = both_true (rises l.0) (in_deck n l.0) both.0 in
-    so P l e x (
-      record { deal = rising_deal n l.0 c.valid.count parts.0 parts.1; representative = both.1; mask = omega (arith, m.valid.1) },
-      exception_joined words _ _ _ (codes "except") (map card_text cards.value.0) (decimal mask.value.0) k.front c.front m.front end.0,
-    ))
-    (λ none. absurd (no_value e none))
-
-exception_again : (n : ℕ) (e : Exception) → IsDeck n → IsException n e → exception_of n (except_words e) ≡ Some e
-unfolding exception_of except_words
-exception_again n e deck is =
-    let below = of_all (λ card. card < n) e.0 is.deal.set.below in
-    let rest : List Word = decimal e.1 ∷ [] in
-    let cards : so_many card_of 5 (map card_text e.0 ++ rest) ≡ Some (e.0, rest) =
-    (Exact-so_many Exact-card 5).again rest e.0 (record { count = is.deal.five; all = below_more n 54 e.0 deck.1 below }) refl in
-    let mask : digit 31 (decimal e.1) ≡ Some e.1 = Exact-mask.again e.1 (omega arith, omega (arith, is.mask)) in
-    rw (cards, mask, increasing-rises e.0 is.deal.set.rising, below_all n e.0 below, is.representative)
-
 pub Exact-exception : (n : ℕ) → IsDeck n → ExactText except_words (IsException n) (exception_of n)
-Exact-exception n deck = record { takes = λ words e read. exception_taken n words e read; again = λ e is. exception_again n e deck is }
+unfolding exception_of except_words
+Exact-exception n deck =
+    let parts = Exact-after (codes "except") (Exact-then (Exact-so_many Exact-card 5) (Exact-one_word Exact-mask)) in
+    Exact-also (Exact-passing (Exact-all_of parts refl) (stands n))
+    except_words (λ e. refl)
+    (λ e is.
+    let both = both_true (rises e.0 && in_deck n e.0) (is_representative e.0) is.1 in
+    let parts = both_true (rises e.0) (in_deck n e.0) both.0 in
+    record { deal = rising_deal n e.0 is.0.0.count parts.0 parts.1; representative = both.1; mask = omega (arith, is.0.1.1) })
+    (λ e is.
+    let below = of_all (λ card. card < n) e.0 is.deal.set.below in (
+      (record { count = is.deal.five; all = below_more n 54 e.0 deck.1 below }, (omega arith, omega (arith, is.mask))),
+      rw (increasing-rises e.0 is.deal.set.rising, below_all n e.0 below, is.representative) refl,
+    ))

@@ -9,7 +9,8 @@ use Rattle.vp_text.specs.Lines.{Word}
 use Rattle.vp_text.specs.Reading.{next_is, one_line, both, mapped, closed}
 use Rattle.vp_text.specs.Numbers.{number_within}
 use Rattle.vp_text.specs.Pieces.{Piece, ◌>>=◌, one_word, so_many, key_word, ended, up_to_end}
-use Rattle.vp_text.specs.Streams.{always, following, has_room}
+use Rattle.vp_text.specs.Sequences.{◌>>◌, after, all_of}
+use Rattle.vp_text.specs.Streams.{always, following, has_room, passing}
 use Rattle.vp_text.specs.ExactReaders.{Reader}
 use Rattle.vp_pay.specs.declared.table.PayTable.{PayTable}
 use Rattle.vp_suit.specs.Classes.{is_representative}
@@ -104,18 +105,13 @@ next_rule_of most version table = following (has_room most) (rule_of version tab
 
 -- ---- exceptions
 
--- this exception, where its cards rise, are of a deck of n, and are the representative of their class
-abbrev pub standing : ℕ → Exception → Option Exception
-standing n exception = if (rises exception.0 && in_deck n exception.0) && is_representative exception.0 then Some exception else None
+-- its cards rise, are of a deck of n, and are the representative of their class
+abbrev pub stands : ℕ → Exception → Bool
+stands n exception = (rises exception.0 && in_deck n exception.0) && is_representative exception.0
 
 -- `except`, a representative and a mask
 unfoldable pub exception_of : ℕ → List Word → Option Exception
-exception_of n words = do
-  key ← key_word (codes "except") words
-  cards ← so_many card_of 5 key.1
-  mask ← one_word (digit 31) cards.1
-  exception ← ended (cards.0, mask.0) mask.1
-  standing n exception
+exception_of n words = passing (stands n) (all_of (after (codes "except") (so_many card_of 5 >> one_word (digit 31))) words)
 
 -- ---- what stands in front of a line
 

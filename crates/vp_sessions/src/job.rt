@@ -72,9 +72,14 @@ impl<'a> SessionsJob<'a> {
         memory: &mut [u64],
         sink: &mut K,
     ) -> Status
-        requires room { self.now.table.coins * first_word self.now.table.deck 6 ≤ length memory.old }
-        requires sessions { sessions.now ≡ record { deck = self.now.table.deck; sessions = sessions_of self.now.table.deck self.now.csv } }
-        ensures { Served (answer_of (found self.now.table (sessions_of self.now.table.deck self.now.csv))) (K.told sink.old) (K.told sink.new) result }
+        requires room { self.now.table.coins * first_word self.now.table.deck 6
+            ≤ length memory.old }
+        requires sessions { sessions.now ≡ record {
+          deck = self.now.table.deck;
+          sessions = sessions_of self.now.table.deck self.now.csv;
+        } }
+        ensures { Served (answer_of (found self.now.table (sessions_of self.now.table.deck self.now.csv)))
+            (K.told sink.old) (K.told sink.new) result }
     {
         let mut carver = Carver::over(memory);
         let words = carver.take_as_it_is(self.words()).unwrap();
@@ -139,7 +144,8 @@ fn put_sessions<K: Sink>(
     sink: &mut K,
 ) -> Result<u32, WriteFault>
     requires { sessions.now.deck ≡ games.now.deck }
-    ensures puts { Puts (K.told sink.old) (K.told sink.new) result (sessions_text games.now sessions.now.sessions) }
+    ensures puts { Puts (K.told sink.old) (K.told sink.new) result
+        (sessions_text games.now sessions.now.sessions) }
     ensures unlawful { IfOk result (λ count. count ≡ unlawful games.now sessions.now.sessions) }
 {
     let table = games.table();
@@ -168,7 +174,8 @@ fn counted(count: u32, broken: Option<Broken>) -> u32
 
 /// Puts how many sessions there are, and how many are unlawful.
 fn put_count<K: Sink>(count: u32, unlawful: u32, sink: &mut K) -> Result<(), WriteFault>
-    ensures { Puts (K.told sink.old) (K.told sink.new) result (line_of (codes "sessions" ∷ decimal count ∷ decimal unlawful ∷ [])) }
+    ensures { Puts (K.told sink.old) (K.told sink.new) result
+        (line_of (codes "sessions" ∷ decimal count ∷ decimal unlawful ∷ [])) }
 {
     let words = [
         Word::Text(b"sessions"),
@@ -207,7 +214,8 @@ fn put_session<K: Sink>(
 ) -> Result<(), WriteFault>
     requires log { IsLog games.now.deck log.now }
     requires broken { broken ≡ break_in games.now log.now }
-    ensures { Puts (K.told sink.old) (K.told sink.new) result (session_text games.now (record { name = name.now; log = log.now })) }
+    ensures { Puts (K.told sink.old) (K.told sink.new) result
+        (session_text games.now (record { name = name.now; log = log.now })) }
 {
     put_words(&[Word::Text(b"session"), Word::Text(name.text())], sink)?;
     put_log(games, log, broken, sink)
