@@ -1,3 +1,3 @@
 pub mod NoCommand
 pub mod GivenWords
-pub mod Laws
+pub mod CommandLaws

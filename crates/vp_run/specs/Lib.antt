@@ -2,4 +2,4 @@ pub mod Answer
 pub mod SomeText
 pub mod Memory
 pub mod Arguments
-pub mod Laws
+pub mod CommandLaws

@@ -1,6 +1,6 @@
 // Laws of the answers, from the words and the bytes on. What each says of its command is the law of the command's crate.
 ghost use Rattle.vp_run.specs.Answer.{AnswersAreOfTasks, UsageIsForNoCommand};
-ghost use Rattle.vp_run.specs.Laws.{AuditsPrintLosses, CertificatesAreChecked, CertificatesTellEveryDeal, ChecksTellEveryDeal, ChecksTellWalkedDeals, CompiledListsAreAudited, CompiledListsLoseLittle, CrossesPricePlay, DealsPrintBestHolds, HitsPrintChances, MetersAreTold, MultisPrintMoments, PartsTellEveryDeal, PartsTellWalkedDeals, PlaysAreReplayed, ReplaysTellCosts, SessionsAreInTheAnswer, SessionsAreReplayed};
+ghost use Rattle.vp_run.specs.CommandLaws.{AuditsPrintLosses, CertificatesAreChecked, CertificatesTellEveryDeal, ChecksTellEveryDeal, ChecksTellWalkedDeals, CompiledListsAreAudited, CompiledListsLoseLittle, CrossesPricePlay, DealsPrintBestHolds, HitsPrintChances, MetersAreTold, MultisPrintMoments, PartsTellEveryDeal, PartsTellWalkedDeals, PlaysAreReplayed, ReplaysTellCosts, SessionsAreInTheAnswer, SessionsAreReplayed};
 
 /// The line on usage is the answer to words that are no command, whatever the input, and to no others.
 #[tactic(auto, using(crate::proofs::NoCommand::usage_is))]
@@ -16,7 +16,6 @@ pub fn answers_are_of_tasks()
 
 /// The answer of `deal` to each pay table and deal that it takes are four lines that print a best hold
 /// (`deals_print_best_holds` of `vp_deal`).
-#[tactic(auto, using(crate::proofs::Laws::deals))]
 pub fn deals_print_best_holds()
     ensures { DealsPrintBestHolds }
 {}
@@ -40,21 +39,18 @@ pub fn checks_in_parts_tell_every_deal()
 
 /// What `certify` prints is an input of `check`, short enough to be read, with which it finds no fault, whatever class
 /// lines are walked.
-#[tactic(auto, using(crate::proofs::Laws::certificates_well))]
 pub fn certificates_are_checked()
     ensures { CertificatesAreChecked }
 {}
 
 /// The answer of `audit` to each pay table and list that it takes prints the loss of the list (`audits_print_losses` of
 /// `vp_audit`).
-#[tactic(auto, using(crate::proofs::Laws::audits))]
 pub fn audits_print_losses()
     ensures { AuditsPrintLosses }
 {}
 
 /// The answer of `compile` to each pay table and pool that it takes is a list with the numbers that are said of it
 /// (`compiled_lists_lose_little` of `vp_audit`).
-#[tactic(auto, using(crate::proofs::Laws::compiles))]
 pub fn compiled_lists_lose_little()
     ensures { CompiledListsLoseLittle }
 {}
@@ -67,35 +63,31 @@ pub fn compiled_lists_are_audited()
 
 /// The answer of `cross` to each two pay tables that it takes prints what the best play of the first is worth on the second
 /// (`crosses_price_play` of `vp_cross`).
-#[tactic(auto, using(crate::proofs::Laws::crosses))]
 pub fn crosses_price_play()
     ensures { CrossesPricePlay }
 {}
 
 /// The answer of `multi` to each pay table that it takes prints the moments of the total payment of several hands from one
 /// deal (`multis_print_moments` of `vp_multi`).
-#[tactic(auto, using(crate::proofs::Laws::multis))]
 pub fn multis_print_moments()
     ensures { MultisPrintMoments }
 {}
 
 /// The answer of `hits` to each pay table that it takes prints the chances of the pay lines under the printed holds
 /// (`hits_print_chances` of `vp_hits`).
-#[tactic(auto, using(crate::proofs::Laws::hits))]
 pub fn hits_print_chances()
     ensures { HitsPrintChances }
 {}
 
 /// The answer of `meter` to each pay table that it takes tells every deal at every whole payment of its range
 /// (`meters_are_told` of `vp_meter`).
-#[tactic(auto, using(crate::proofs::Laws::meters))]
 pub fn meters_are_told()
     ensures { MetersAreTold }
 {}
 
 /// The answer of `replay` to each pay table and log that it takes: what the holds cost, or the first game that breaks a law
 /// (`replays_tell_costs` of `vp_replay`).
-#[tactic(auto, using(crate::proofs::Laws::replays))]
+#[tactic(auto, using(crate::proofs::CommandLaws::replays))]
 pub fn replays_tell_costs()
     ensures { ReplaysTellCosts }
 {}
@@ -103,7 +95,6 @@ pub fn replays_tell_costs()
 /// The answer of `play` to each pay table that it takes prints the numbers of a log that breaks no law: what is written of
 /// the pay table and that log is an input of `replay`, whose answer is the lines of the costs, and behind them the same six
 /// lines.
-#[tactic(auto, using(crate::proofs::Laws::plays))]
 pub fn plays_are_replayed()
     ensures { PlaysAreReplayed }
 {}
@@ -111,14 +102,14 @@ pub fn plays_are_replayed()
 /// The answer of `sessions` to each pay table and CSV text that it takes is the lines of each session, which are what
 /// `replay` answers to the pay table and its log alone, or names the first record that breaks its rule
 /// (`sessions_are_replayed` of `vp_sessions`).
-#[tactic(auto, using(crate::proofs::Laws::sessions))]
+#[tactic(auto, using(crate::proofs::CommandLaws::sessions))]
 pub fn sessions_are_replayed()
     ensures { SessionsAreReplayed }
 {}
 
 /// Each session has its lines in the answer of `sessions`; that these depend on the pay table and on its own records alone
 /// is `sessions_do_not_mix` of `vp_sessions`.
-#[tactic(auto, using(crate::proofs::Laws::sessions_in))]
+#[tactic(auto, using(crate::proofs::CommandLaws::sessions_in))]
 pub fn sessions_are_in_the_answer()
     ensures { SessionsAreInTheAnswer }
 {}

@@ -1,4 +1,4 @@
-use Rattle.vp_run.proofs.Laws.{certificates, checks, checks_walked}
+use Rattle.vp_run.proofs.CommandLaws.{certificates, checks, checks_walked}
 use Rattle.vp_run.proofs.laws.certificates_tell_every_deal.Goals as goal
 
 pub returns-clause-certify : goal.returns-clause-certify

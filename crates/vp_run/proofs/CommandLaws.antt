@@ -20,9 +20,12 @@ use Rattle.vp_command.proofs.CommandWords.{in_range}
 use Rattle.vp_audit.specs.Audit.{audit_input, audit_job}
 use Rattle.vp_audit.specs.Compile.{Pooled, compile_input}
 use Rattle.vp_rule.specs.Lists.{RulePool}
+use Rattle.vp_audit.specs.AuditTells.{PrintsLoss}
+use Rattle.vp_audit.specs.CompileTells.{TellsList}
 use Rattle.vp_audit.proofs.AuditTells.{losses_printed}
 use Rattle.vp_audit.proofs.CompileTells.{lists_audited, lists_lose_little}
 use Rattle.vp_cert.specs.Certify.{certify_input}
+use Rattle.vp_cert.specs.CertifyTells.{PrintsAll}
 use Rattle.vp_cert.proofs.CertifyTells.{certificates_checked, certificates_tell}
 use Rattle.vp_check.specs.Certificates.{Certificate}
 use Rattle.vp_check.specs.CheckJob.{check_job, check_read}
@@ -32,17 +35,22 @@ use Rattle.vp_check.specs.declared.finding.Checked.{Checked}
 use Rattle.vp_check.proofs.CheckTells.{checks_tell, checks_tell_walked}
 use Rattle.vp_check.proofs.CheckedInParts.{parts_tell, parts_tell_walked}
 use Rattle.vp_cross.specs.Cross.{cross_input}
+use Rattle.vp_cross.specs.CrossTells.{PrintsCross}
 use Rattle.vp_cross.proofs.CrossTells.{crosses_price}
 use Rattle.vp_csv.specs.Sessions.{Session, sessions_of}
 use Rattle.vp_deal.specs.Deal.{deal_input}
+use Rattle.vp_deal.specs.DealTells.{PrintsHold}
 use Rattle.vp_deal.proofs.DealTells.{deals_print}
 use Rattle.vp_gen.specs.Play.{play_input}
 use Rattle.vp_gen.proofs.PlayTells.{plays_replayed}
 use Rattle.vp_hits.specs.HitsJob.{hits_input}
+use Rattle.vp_hits.specs.HitsTells.{PrintsChances}
 use Rattle.vp_hits.proofs.HitsTells.{hits_print}
 use Rattle.vp_meter.specs.Meter.{meter_input, metering_of}
+use Rattle.vp_meter.specs.MeterTells.{PrintsMeter}
 use Rattle.vp_meter.proofs.MeterTells.{meters_told}
 use Rattle.vp_multi.specs.Multi.{multi_input}
+use Rattle.vp_multi.specs.MultiTells.{PrintsMoments}
 use Rattle.vp_multi.proofs.MultiTells.{multis_print}
 use Rattle.vp_replay.specs.ReplayTells.{NamesBreak, TellsCosts}
 use Rattle.vp_replay.specs.Replay.{Logged, log_file, replay_answer, replay_input, replay_job}
@@ -51,7 +59,7 @@ use Rattle.vp_sessions.specs.Sessions.{session_text, sessions_input}
 use Rattle.vp_sessions.specs.SessionsTell.{IsReplayedAlone, NamesRecord, TellsSessions}
 use Rattle.vp_sessions.proofs.SessionsTell.{sessions_apart, sessions_replayed}
 use Rattle.vp_run.specs.Answer.{answer, heap_due, job_of, lent_due, task_answer}
-use Rattle.vp_run.specs.Laws.{Asks, AreYes, AuditsPrintLosses, CertificatesAreChecked, CertificatesTellEveryDeal, ChecksTellEveryDeal, ChecksTellWalkedDeals, CompiledListsAreAudited, CompiledListsLoseLittle, CrossesPricePlay, DealsPrintBestHolds, HasEachSession, HitsPrintChances, IsAnsweredAlone, IsAuditedSo, IsCheckedWell, IsYes, MetersAreTold, MultisPrintMoments, PartsTellEveryDeal, PartsTellWalkedDeals, PlaysAreReplayed, ReplaysTellCosts, SessionsAreInTheAnswer, SessionsAreReplayed, Tells, TellsEachSession, TellsPlayed}
+use Rattle.vp_run.specs.CommandLaws.{Asks, AreYes, AuditsPrintLosses, CertificatesAreChecked, CertificatesTellEveryDeal, ChecksTellEveryDeal, ChecksTellWalkedDeals, CompiledListsAreAudited, CompiledListsLoseLittle, CrossesPricePlay, DealsPrintBestHolds, HasEachSession, HitsPrintChances, IsAnsweredAlone, IsAuditedSo, IsCheckedWell, IsYes, MetersAreTold, MultisPrintMoments, PartsTellEveryDeal, PartsTellWalkedDeals, PlaysAreReplayed, ReplaysTellCosts, SessionsAreInTheAnswer, SessionsAreReplayed, Tells, TellsEachSession, TellsPlayed}
 use Rattle.vp_run.specs.declared.job.HeapJob.{HeapJob}
 use Rattle.vp_run.specs.declared.job.HeapJob.TheVariants as heap
 use Rattle.vp_run.specs.declared.job.LentJob.{LentJob}
@@ -75,37 +83,37 @@ told task input work IsTold is law words bytes read asks says =
     subst (IsTold read) (due words task bytes (Ok (work read)) asks (is bytes read says)) (law bytes read (in_range words task asks) says)
 
 pub deals : DealsPrintBestHolds
-deals coin = told (task.Deal coin) (deal_input coin) (λ read. Lent (lent.Deal (record { table = read.0; coin = coin; hand = read.1 }))) _
+deals coin = told (task.Deal coin) (deal_input coin) (λ read. Lent (lent.Deal (record { table = read.0; coin = coin; hand = read.1 }))) (λ read. PrintsHold (record { table = read.0; coin = coin; hand = read.1 }))
     (λ bytes read says. ap (λ r. as_job (λ job. Lent (lent.Deal job)) (read_as (λ read. record { table = read.0; coin = coin; hand = read.1 }) r)) says)
     (λ bytes read range says. deals_print coin bytes read.0 read.1 says)
 
 pub certificates : CertificatesTellEveryDeal
-certificates coin = told (task.Certify coin) (certify_input coin) (λ read. Lent (lent.Certify (record { table = read.0; coin = coin }))) _
+certificates coin = told (task.Certify coin) (certify_input coin) (λ read. Lent (lent.Certify (record { table = read.0; coin = coin }))) (λ read. PrintsAll read.0 coin)
     (λ bytes read says. ap (λ r. as_job (λ job. Lent (lent.Certify job)) (read_as (λ read. record { table = read.0; coin = coin }) r)) says)
     (λ bytes read range says. certificates_tell coin bytes read.0 range.0 says)
 
 pub audits : AuditsPrintLosses
-audits coin = told (task.Audit coin) (audit_input coin) (λ read. Lent (lent.Audit (record { table = read.0; coin = coin; list = read.1 }))) _
+audits coin = told (task.Audit coin) (audit_input coin) (λ read. Lent (lent.Audit (record { table = read.0; coin = coin; list = read.1 }))) (λ read. PrintsLoss (record { table = read.0; coin = coin; list = read.1 }))
     (λ bytes read says. ap (λ r. as_job (λ job. Lent (lent.Audit job)) (read_as (λ read. record { table = read.0; coin = coin; list = read.1 }) r)) says)
     (λ bytes read range says. losses_printed coin bytes read.0 read.1 range.0 says)
 
 pub crosses : CrossesPricePlay
-crosses coin = told (task.Cross coin) (cross_input coin) (λ read. Lent (lent.Cross (record { played = read.0; priced = read.1; coin = coin }))) _
+crosses coin = told (task.Cross coin) (cross_input coin) (λ read. Lent (lent.Cross (record { played = read.0; priced = read.1; coin = coin }))) (λ read. PrintsCross (record { played = read.0; priced = read.1; coin = coin }))
     (λ bytes read says. ap (λ r. as_job (λ job. Lent (lent.Cross job)) (read_as (λ read. record { played = read.0; priced = read.1; coin = coin }) r)) says)
     (λ bytes read range says. crosses_price coin bytes read.0 read.1 says)
 
 pub multis : MultisPrintMoments
-multis coin hands = told (task.Multi coin hands) (multi_input coin) (λ read. Lent (lent.Multi (record { table = read.0; coin = coin; hands = hands }))) _
+multis coin hands = told (task.Multi coin hands) (multi_input coin) (λ read. Lent (lent.Multi (record { table = read.0; coin = coin; hands = hands }))) (λ read. PrintsMoments (record { table = read.0; coin = coin; hands = hands }))
     (λ bytes read says. ap (λ r. as_job (λ job. Lent (lent.Multi job)) (read_as (λ read. record { table = read.0; coin = coin; hands = hands }) r)) says)
     (λ bytes read range says. multis_print coin hands bytes read.0 says)
 
 pub hits : HitsPrintChances
-hits coin = told (task.Hits coin) (hits_input coin) (λ read. Lent (lent.Hits (record { table = read.0; coin = coin }))) _
+hits coin = told (task.Hits coin) (hits_input coin) (λ read. Lent (lent.Hits (record { table = read.0; coin = coin }))) (λ read. PrintsChances (record { table = read.0; coin = coin }))
     (λ bytes read says. ap (λ r. as_job (λ job. Lent (lent.Hits job)) (read_as (λ read. record { table = read.0; coin = coin }) r)) says)
     (λ bytes read range says. hits_print coin bytes read.0 says)
 
 pub meters : MetersAreTold
-meters coin lo hi name = told (task.Meter coin name lo hi) (meter_input coin name) (λ read. Lent (lent.Meter (record { metering = metering_of coin name read.0; lo = lo; hi = hi }))) _
+meters coin lo hi name = told (task.Meter coin name lo hi) (meter_input coin name) (λ read. Lent (lent.Meter (record { metering = metering_of coin name read.0; lo = lo; hi = hi }))) (λ read. PrintsMeter read.0 coin name lo hi)
     (λ bytes read says. ap (λ r. as_job (λ job. Lent (lent.Meter job)) (read_as (λ read. record { metering = metering_of coin name read.0; lo = lo; hi = hi }) r)) says)
     (λ bytes read range says. meters_told coin lo hi name bytes read.0 range.some says)
 
@@ -116,12 +124,12 @@ compile_left coin millionths bytes read says =
     ap (λ r. as_job (λ job. Heap (heap.Compile job)) (read_as (λ read. record { table = read.0; coin = coin; millionths = millionths; pool = read.1 }) r)) says
 
 pub compiles : CompiledListsLoseLittle
-compiles coin millionths = told (task.Compile coin millionths) (compile_input coin) (λ read. Heap (heap.Compile (record { table = read.0; coin = coin; millionths = millionths; pool = read.1 }))) _
+compiles coin millionths = told (task.Compile coin millionths) (compile_input coin) (λ read. Heap (heap.Compile (record { table = read.0; coin = coin; millionths = millionths; pool = read.1 }))) (λ read. TellsList (record { table = read.0; coin = coin; millionths = millionths; pool = read.1 }))
     (compile_left coin millionths)
     (λ bytes read range says. lists_lose_little coin millionths bytes read.0 read.1 range.some_coin range.most says)
 
 pub compiles_audited : CompiledListsAreAudited
-compiles_audited coin millionths = told (task.Compile coin millionths) (compile_input coin) (λ read. Heap (heap.Compile (record { table = read.0; coin = coin; millionths = millionths; pool = read.1 }))) _
+compiles_audited coin millionths = told (task.Compile coin millionths) (compile_input coin) (λ read. Heap (heap.Compile (record { table = read.0; coin = coin; millionths = millionths; pool = read.1 }))) (λ read. IsAuditedSo (record { table = read.0; coin = coin; millionths = millionths; pool = read.1 }))
     (compile_left coin millionths)
     (λ bytes read range says.
     let is = lists_audited coin millionths bytes read.0 read.1 range.some_coin range.most says in
@@ -145,7 +153,7 @@ replays words bytes read asks says =
     subst (λ a. TellsCosts read.0 read.1 a ⊎ NamesBreak read.0 read.1 a) (replayed words bytes asks) (replays_tell bytes read.0 read.1 says)
 
 pub plays : PlaysAreReplayed
-plays coin seed games = told (task.Play coin seed games) (play_input coin) (λ read. Heap (heap.Play (record { table = read.0; coin = coin; seed = seed; games = games }))) _
+plays coin seed games = told (task.Play coin seed games) (play_input coin) (λ read. Heap (heap.Play (record { table = read.0; coin = coin; seed = seed; games = games }))) (λ read. TellsPlayed (record { table = read.0; coin = coin; seed = seed; games = games }))
     (λ bytes read says. ap (λ r. as_job (λ job. Heap (heap.Play job)) (read_as (λ read. record { table = read.0; coin = coin; seed = seed; games = games }) r)) says)
     (λ bytes read range says.
     let is = plays_replayed coin seed games bytes read.0 range.some_coin range.some range.most says in
@@ -172,7 +180,7 @@ sessions_left : (bytes : List ℕ) (read : PayTable × List ℕ) → sessions_in
 sessions_left bytes read says = ap (λ r. as_job (λ job. Heap (heap.Sessions job)) (read_as (λ read. record { table = read.0; csv = read.1 }) r)) says
 
 pub sessions : SessionsAreReplayed
-sessions = told task.Sessions sessions_input (λ read. Heap (heap.Sessions (record { table = read.0; csv = read.1 }))) _ sessions_left
+sessions = told task.Sessions sessions_input (λ read. Heap (heap.Sessions (record { table = read.0; csv = read.1 }))) (λ read due. TellsEachSession read.0 read.1 due ⊎ NamesRecord read.0 read.1 due) sessions_left
     (λ bytes read range says. of_either read.0 read.1 _ (sessions_replayed bytes read.0 read.1 says))
   where
     of_either : (table : PayTable) (csv : List ℕ) (a : Answer) → TellsSessions table csv a ⊎ NamesRecord table csv a → TellsEachSession table csv a ⊎ NamesRecord table csv a
@@ -180,7 +188,7 @@ sessions = told task.Sessions sessions_input (λ read. Heap (heap.Sessions (reco
     of_either table csv a (inr names) = inr names
 
 pub sessions_in : SessionsAreInTheAnswer
-sessions_in = told task.Sessions sessions_input (λ read. Heap (heap.Sessions (record { table = read.0; csv = read.1 }))) _ sessions_left
+sessions_in = told task.Sessions sessions_input (λ read. Heap (heap.Sessions (record { table = read.0; csv = read.1 }))) HasEachSession sessions_left
     (λ bytes read range says name kept knows. sessions_apart.lines bytes read.0 read.1 name says kept knows)
 
 -- ---- certificates that are checked
@@ -219,7 +227,7 @@ pub parts : PartsTellEveryDeal
 parts bytes c walks spells all walked = parts_tell bytes c walks spells (yes_jobs bytes walks all) walked
 
 pub certificates_well : CertificatesAreChecked
-certificates_well coin = told (task.Certify coin) (certify_input coin) (λ read. Lent (lent.Certify (record { table = read.0; coin = coin }))) _
+certificates_well coin = told (task.Certify coin) (certify_input coin) (λ read. Lent (lent.Certify (record { table = read.0; coin = coin }))) (λ read. IsCheckedWell)
     (λ bytes read says. ap (λ r. as_job (λ job. Lent (lent.Certify job)) (read_as (λ read. record { table = read.0; coin = coin }) r)) says)
     (λ bytes read range says.
     let is = certificates_checked coin bytes read.0 range.0 says in
