@@ -207,7 +207,7 @@ fn served_in_lent_words(rt: HostRuntime) -> Result<(), Fail> {
         assert_eq!(rt; words_to_lend(words, &input), Ok(due));
     }
     assert!(rt; in_region(&["deal", "1"], &input));
-    let mut region = Region::open(rt.alloc(), 2_893_164)?;
+    let mut region = Region::open(rt.alloc(), region_words(&["deal", "1"], &input))?;
     let mut room = [0; 512];
     let mut sink = MemSink::new(&mut room, 512, &[]);
     assert!(rt; served(&["deal", "1"], &input, region.words(), &mut sink).is_ok());
@@ -220,8 +220,6 @@ fn served_in_lent_words(rt: HostRuntime) -> Result<(), Fail> {
 #[test]
 fn lent_words(rt: HostRuntime) -> Result<(), Fail> {
     let input = joined(rt.alloc(), JACKS, ROYAL_DRAW)?;
-    let mut region = Region::open(rt.alloc(), 2_893_164)?;
-    region.words().fill(u64::MAX);
     let made: &[&str] = &["play", "1", "1", "1"];
     assert_eq!(rt; words_to_lend(made, JACKS), Err(Status::NoMemory));
     let cases: [(&[&str], &[u8], usize, Status, &[u8]); 6] = [
@@ -245,9 +243,11 @@ fn lent_words(rt: HostRuntime) -> Result<(), Fail> {
         ),
     ];
     for (words, bytes, lent, due, text) in cases {
+        let mut region = Region::open(rt.alloc(), lent)?;
+        region.words().fill(u64::MAX);
         let mut room = [0; 512];
         let mut sink = MemSink::new(&mut room, 512, &[]);
-        let status = vpoker_lent(words, bytes, &mut region.words()[..lent], &mut sink);
+        let status = vpoker_lent(words, bytes, region.words(), &mut sink);
         assert_eq!(rt; status, due);
         assert_eq!(rt; sink.taken(), text);
     }
