@@ -7,7 +7,7 @@ use vp_pay::samples::{
     DEUCES_AND_ACE, GREATEST, JACKS, KICKER, LONG, ONE_JOKER, OPERATORS_JACKS, TWO_JOKERS, ZERO,
 };
 use vp_region::Region;
-use vp_run::{Status, in_region, region_words, served, vpoker_lent, words_to_lend};
+use vp_run::{Status, in_region, region_words, served, words_to_lend};
 
 pub(crate) const ROYAL_DRAW: &[u8] = b"deal As Ks Qs Js 4s\n";
 
@@ -212,44 +212,5 @@ fn served_in_lent_words(rt: HostRuntime) -> Result<(), Fail> {
     let mut sink = MemSink::new(&mut room, 512, &[]);
     assert!(rt; served(&["deal", "1"], &input, region.words(), &mut sink).is_ok());
     assert_eq!(rt; sink.taken(), ROYAL_DRAW_ANSWER);
-    Ok(())
-}
-
-// Words of memory that are lent: enough of them with any numbers in them, one too few, and a command for which no number
-// is enough.
-#[test]
-fn lent_words(rt: HostRuntime) -> Result<(), Fail> {
-    let input = joined(rt.alloc(), JACKS, ROYAL_DRAW)?;
-    let made: &[&str] = &["play", "1", "1", "1"];
-    assert_eq!(rt; words_to_lend(made, JACKS), Err(Status::NoMemory));
-    let cases: [(&[&str], &[u8], usize, Status, &[u8]); 6] = [
-        (&["deal", "1"], &input, 2_893_163, Status::NoMemory, b""),
-        (
-            &["deal", "1"],
-            &input,
-            2_893_164,
-            Status::Done,
-            ROYAL_DRAW_ANSWER,
-        ),
-        (&["deal", "2"], &input, 0, Status::Refused, b"refused 14\n"),
-        (&["deal"], &input, 0, Status::Usage, b"usage\n"),
-        (made, JACKS, 2_893_164, Status::NoMemory, b""),
-        (
-            &["check", "1", "0"],
-            JACKS,
-            0,
-            Status::Refused,
-            b"refused 15\n",
-        ),
-    ];
-    for (words, bytes, lent, due, text) in cases {
-        let mut region = Region::open(rt.alloc(), lent)?;
-        region.words().fill(u64::MAX);
-        let mut room = [0; 512];
-        let mut sink = MemSink::new(&mut room, 512, &[]);
-        let status = vpoker_lent(words, bytes, region.words(), &mut sink);
-        assert_eq!(rt; status, due);
-        assert_eq!(rt; sink.taken(), text);
-    }
     Ok(())
 }
