@@ -6,8 +6,11 @@
 #include "vpoker.h"
 
 #include <stdio.h>
+#include <string.h>
 
-static uint8_t table[1 << 16], room[8000000];
+enum { TABLE = 1 << 16, LINE = 64 };
+
+static uint8_t table[TABLE + LINE], room[8000000];
 
 /* Asks with the first bytes of the table, and says how long the text in the room is; 0 where it is no answer. */
 static size_t ask(const char *words, size_t words_len, size_t length)
@@ -22,13 +25,17 @@ static size_t ask(const char *words, size_t words_len, size_t length)
 
 int main(int argc, char **argv)
 {
-    char deal[16]; /* five cards, a line feed and a zero byte */
+    char deal[LINE - 8]; /* five cards, a line feed and a zero byte are 16 */
     FILE *file = argc == 2 ? fopen(argv[1], "rb") : NULL;
     if (file == NULL) {
         fprintf(stderr, "usage: slot TABLE\n");
         return 2;
     }
-    size_t length = fread(table, 1, sizeof table - 32, file);
+    size_t length = fread(table, 1, TABLE, file);
+    if (ferror(file) || length == TABLE) {
+        fprintf(stderr, "slot: %s cannot be read, or is longer than a pay table is\n", argv[1]);
+        return 2;
+    }
     size_t end = ask("certify\0" "1", sizeof "certify\0" "1", length), line = end - 4;
     if (end == 0)
         return 1;
@@ -37,7 +44,11 @@ int main(int argc, char **argv)
     while (room[line - 1] != '\n');
     fwrite(room + line, 1, end - 4 - line, stdout);
     while (fgets(deal, sizeof deal, stdin)) {
-        int more = snprintf((char *)table + length, 32, "\ndeal %s", deal);
+        if (strchr(deal, '\n') == NULL && !feof(stdin)) {
+            fprintf(stderr, "slot: a line longer than a deal\n");
+            return 2;
+        }
+        int more = snprintf((char *)table + length, LINE, "\ndeal %s", deal);
         fwrite(room, 1, ask("deal\0" "1", sizeof "deal\0" "1", length + (size_t)more), stdout);
     }
     return 0;

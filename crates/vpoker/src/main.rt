@@ -3,6 +3,9 @@
 
 ghost use Rattle.std.specs.Prelude.{◌≡◌, ◌≢◌};
 
+mod stack;
+
+use stack::has_stack;
 use std::env;
 use std::io::ErrorKind;
 use std::process::ExitCode;
@@ -14,6 +17,10 @@ use vp_run::{Status, run};
 const REFUSED_ARGUMENTS: u8 = 8;
 
 fn main(rt: HostRuntime) -> ExitCode {
+    // Before anything is asked for: a stack that cannot grow later would end the program by a signal.
+    if !has_stack() {
+        return ExitCode::from(Status::NoMemory.code());
+    }
     let mut source = RealSource::new(rt.stdin());
     let sink = RealSink::new(rt.stdout());
     let code = match env::args(&rt) {
