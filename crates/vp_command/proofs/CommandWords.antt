@@ -83,6 +83,7 @@ a_meter (stake ∷ line ∷ least ∷ greatest ∷ []) read e =
     (meter_same _ _ _ _ _ _ _ _ (sym k.1) n.1 (sym l.1) (sym h.1), record { some = k.0.0; most = k.0.1; name = ap is_name (sym n.1) ∙ n.0; order = l.0.1; most_payment = h.0.1 })
 
 a_multi : (numbers : List Word) (read : Task) → multi numbers ≡ Some read → Spells (codes "multi" ∷ numbers) read
+unfolding coin_of
 a_multi [] read e = absurd cc
 a_multi (first ∷ []) read e = absurd cc
 a_multi (first ∷ second ∷ third ∷ more) read e = absurd cc
@@ -100,6 +101,7 @@ play_same : (a b c d e f : Word) → a ≡ b → c ≡ d → e ≡ f → codes "
 play_same a b c d e f p q r = rw (p, q, r) refl
 
 a_play : (numbers : List Word) (read : Task) → play numbers ≡ Some read → Spells (codes "play" ∷ numbers) read
+unfolding coin_of
 a_play [] read e = absurd cc
 a_play (first ∷ []) read e = absurd cc
 a_play (first ∷ second ∷ []) read e = absurd cc
@@ -116,6 +118,7 @@ a_play (first ∷ second ∷ third ∷ []) read e =
     (play_same _ _ _ _ _ _ (sym f.1) (sym s.1) (sym n.1), record { some_coin = f.0.0; most_coin = f.0.1; most_seed = s.0; some = n.0.0; most = n.0.1 })
 
 a_compile : (numbers : List Word) (read : Task) → compile numbers ≡ Some read → Spells (codes "compile" ∷ numbers) read
+unfolding coin_of
 a_compile [] read e = absurd cc
 a_compile (first ∷ []) read e = absurd cc
 a_compile (first ∷ second ∷ third ∷ more) read e = absurd cc

@@ -21,11 +21,14 @@ task_words (Cross coin) = codes "cross" ∷ decimal coin ∷ []
 task_words (Check from count) = codes "check" ∷ decimal from ∷ decimal count ∷ []
 task_words Replay = codes "replay" ∷ []
 task_words Sessions = codes "sessions" ∷ []
-task_words (Meter coin line lo hi) = codes "meter" ∷ decimal coin ∷ line ∷ decimal lo ∷ decimal hi ∷ []
+task_words (Meter coin line lo hi) =
+    codes "meter" ∷ decimal coin ∷ line ∷ decimal lo ∷ decimal hi ∷ []
 task_words (Multi coin hands) = codes "multi" ∷ decimal coin ∷ decimal hands ∷ []
 task_words (Hits coin) = codes "hits" ∷ decimal coin ∷ []
-task_words (Play coin seed games) = codes "play" ∷ decimal coin ∷ decimal seed ∷ decimal games ∷ []
-task_words (Compile coin millionths) = codes "compile" ∷ decimal coin ∷ decimal millionths ∷ []
+task_words (Play coin seed games) =
+    codes "play" ∷ decimal coin ∷ decimal seed ∷ decimal games ∷ []
+task_words (Compile coin millionths) =
+    codes "compile" ∷ decimal coin ∷ decimal millionths ∷ []
 
 -- the words of a command
 abbrev pub command_words : Command → List Word
@@ -105,6 +108,7 @@ lines_of first second = do
   count ← number_within 0 200000 second
   Some (Check from count)
 
+-- the same, of two words
 abbrev pub check : List Word → Option Task
 check (first ∷ second ∷ []) = lines_of first second
 check _ = None
@@ -118,6 +122,7 @@ meter_of bet line least greatest = do
   lo ← number_within 0 hi least
   Some (Meter coin name lo hi)
 
+-- the same, of four words
 abbrev pub meter : List Word → Option Task
 meter (coin ∷ line ∷ lo ∷ hi ∷ []) = meter_of coin line lo hi
 meter _ = None
@@ -125,10 +130,11 @@ meter _ = None
 -- a bet, and the number of hands
 abbrev pub hands_of : Word → Word → Option Task
 hands_of first second = do
-  coin ← number_within 1 5 first
+  coin ← coin_of first
   hands ← number_within 1 100 second
   Some (Multi coin hands)
 
+-- the same, of two words
 abbrev pub multi : List Word → Option Task
 multi (first ∷ second ∷ []) = hands_of first second
 multi _ = None
@@ -136,11 +142,12 @@ multi _ = None
 -- a bet, a seed, and the number of games
 abbrev pub play_of : Word → Word → Word → Option Task
 play_of first second third = do
-  coin ← number_within 1 5 first
+  coin ← coin_of first
   seed ← number_of second
   games ← number_within 1 100000 third
   Some (Play coin seed games)
 
+-- the same, of three words
 abbrev pub play : List Word → Option Task
 play (first ∷ second ∷ third ∷ []) = play_of first second third
 play _ = None
@@ -148,10 +155,11 @@ play _ = None
 -- a bet, and how many millionths may be lost
 abbrev pub compile_of : Word → Word → Option Task
 compile_of first second = do
-  coin ← number_within 1 5 first
+  coin ← coin_of first
   millionths ← number_within 0 1000000 second
   Some (Compile coin millionths)
 
+-- the same, of two words
 abbrev pub compile : List Word → Option Task
 compile (first ∷ second ∷ []) = compile_of first second
 compile _ = None
@@ -192,4 +200,5 @@ reads (Over task) = true
 
 -- ---- words are a command exactly where they spell it with its numbers in range
 abbrev pub CommandsAreSpelled : Type 0
-CommandsAreSpelled = (words : List Word) (command : Command) → command_of words ≡ Some command ↔ (words ≡ command_words command) × AreInRange command
+CommandsAreSpelled = (words : List Word) (command : Command)
+    → command_of words ≡ Some command ↔ (words ≡ command_words command) × AreInRange command

@@ -202,10 +202,10 @@ fn hands_of(coin: &[u8], hands: &[u8]) -> Option<Task>
     ensures is { result ≡ hands_of coin.now hands.now }
     ensures range { IfSome result InRange }
 {
-    let coin = number_within(1, 5, coin)?;
+    let coin = coin_of(coin)?;
     let hands = number_within(1, 100, hands)?;
     Some(Task::Multi {
-        coin: coin as u8,
+        coin,
         hands: hands as u8,
     })
 }
@@ -226,11 +226,11 @@ fn play_of(coin: &[u8], seed: &[u8], games: &[u8]) -> Option<Task>
     ensures is { result ≡ play_of coin.now seed.now games.now }
     ensures range { IfSome result InRange }
 {
-    let coin = number_within(1, 5, coin)?;
+    let coin = coin_of(coin)?;
     let seed = number(seed)?;
     let games = number_within(1, 100_000, games)?;
     Some(Task::Play {
-        coin: coin as u8,
+        coin,
         seed,
         games,
     })
@@ -252,10 +252,10 @@ fn compile_of(coin: &[u8], millionths: &[u8]) -> Option<Task>
     ensures is { result ≡ compile_of coin.now millionths.now }
     ensures range { IfSome result InRange }
 {
-    let coin = number_within(1, 5, coin)?;
+    let coin = coin_of(coin)?;
     let millionths = number_within(0, 1_000_000, millionths)?;
     Some(Task::Compile {
-        coin: coin as u8,
+        coin,
         millionths,
     })
 }
