@@ -1,5 +1,5 @@
-//! How the program answers, whatever the command: statuses, where an input is stopped at, how an answer ends over a
-//! source and a sink, and what an input says.
+//! How the program answers, whatever the command: statuses, where an input is stopped at, and how an answer ends over
+//! a source and a sink.
 #![tactic(auto)]
 
 mod blocks;
