@@ -1,22 +1,15 @@
 -- Words that are no command have one answer, whatever the input; words that are a task have the answer of that task.
-use Rattle.std.proofs.Common.{◌≡◌, ◌≢◌, ℕ, ◌<◌, List, [], ◌++◌, length, true, false, refl, Option, Some, None, Result, Ok, Err, sym, ap, ◌∙◌, subst, arith, length-append}
+use Rattle.std.proofs.Common.{◌≡◌, ◌≢◌, ℕ, ◌<◌, List, [], ◌++◌, length, true, false, refl, Option, Some, None, sym, ap, arith, length-append}
 use Rattle.std.specs.Prelude.{is_some}
-use Rattle.vp_answer.specs.Answers.{Answer, answer_of, answer_read, done}
-use Rattle.vp_answer.specs.Jobs.{Due, DueOf, job_answer}
+use Rattle.vp_answer.specs.Answers.{Answer, answer_of, done}
 use Rattle.vp_answer.specs.declared.status.Status.TheVariants.{Usage}
-use Rattle.vp_answer.specs.declared.stop.Stop.{Stop}
-use Rattle.vp_answer.specs.declared.work.Job.{Job}
-use Rattle.vp_answer.specs.declared.work.Job.TheVariants.{Lent, Heap}
 use Rattle.vp_answer.proofs.SomeAnswers.{no_usage, some_text}
 use Rattle.vp_command.specs.Commands.{command_of}
 use Rattle.vp_command.specs.declared.command.Command.{Command}
 use Rattle.vp_command.specs.declared.command.Command.TheVariants.{Over, Tables}
-use Rattle.vp_command.specs.declared.command.Task.{Task}
 use Rattle.vp_pay.specs.Spelling.{table_text}
 use Rattle.vp_run.specs.Answer.{AnswersAreOfTasks, UsageIsForNoCommand, answer, answer_to, built_in_text, heap_due, is_command, job_of, lent_due, tables_answer, task_answer, usage}
 use Rattle.vp_run.specs.SomeText.{heap_some, lent_some}
-use Rattle.vp_run.specs.declared.job.HeapJob.{HeapJob}
-use Rattle.vp_run.specs.declared.job.LentJob.{LentJob}
 
 no_answer : (command : Option Command) (bytes : List ℕ) → is_some command ≡ false → answer_to command bytes ≡ usage
 no_answer None bytes none = refl
@@ -43,12 +36,6 @@ answer_as words command bytes is = ap (λ (c : Option Command). answer_to c byte
 
 pub of_tasks : AnswersAreOfTasks
 of_tasks words task bytes is = sym (answer_as words (Some (Over task)) bytes is)
-
--- what holds of the answer of what a task leaves to do holds of the answer to its words
-pub answered : (P : Answer → Type 0) (words : List (List ℕ)) (task : Task) (bytes : List ℕ) (read : Result (Job LentJob HeapJob) Stop)
-    → command_of words ≡ Some (Over task) → job_of task bytes ≡ read → P (answer_read (job_answer lent_due heap_due) read) → P (answer words bytes)
-answered P words task bytes read is left holds =
-    subst P (ap (λ r. answer_read (job_answer lent_due heap_due) r) (sym left) ∙ sym (of_tasks words task bytes is)) holds
 
 -- ---- no answer is empty
 

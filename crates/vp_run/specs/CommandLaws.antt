@@ -48,31 +48,47 @@ Asks words task = command_of words ≡ Some (Over task)
 
 -- whatever an input of a task says, the answer tells it so
 abbrev pub Tells : {A : Type 0} → Task → (List ℕ → Result A ℕ) → (A → Answer → Type 0) → Type 0
-Tells {A} task input IsTold = (words : List Word) (bytes : List ℕ) (read : A) → Asks words task → input bytes ≡ Ok read → IsTold read (answer words bytes)
+Tells {A} task input IsTold = (words : List Word) (bytes : List ℕ) (read : A)
+    → Asks words task → input bytes ≡ Ok read → IsTold read (answer words bytes)
 
 -- ---- the commands over a pay table, alone or with a section behind it
 
+-- `deal` prints a best hold of the deal
 abbrev pub DealsPrintBestHolds : Type 0
-DealsPrintBestHolds = (coin : ℕ) → Tells (task.Deal coin) (deal_input coin) (λ read. PrintsHold (record { table = read.0; coin = coin; hand = read.1 }))
+DealsPrintBestHolds = (coin : ℕ) → Tells (task.Deal coin) (deal_input coin)
+    (λ read. PrintsHold (record { table = read.0; coin = coin; hand = read.1 }))
 
+-- `certify` prints a certificate that tells the best hold and the value of every deal
 abbrev pub CertificatesTellEveryDeal : Type 0
-CertificatesTellEveryDeal = (coin : ℕ) → Tells (task.Certify coin) (certify_input coin) (λ read. PrintsAll read.0 coin)
+CertificatesTellEveryDeal = (coin : ℕ) → Tells (task.Certify coin) (certify_input coin)
+    (λ read. PrintsAll read.0 coin)
 
+-- `audit` prints what the list loses
 abbrev pub AuditsPrintLosses : Type 0
-AuditsPrintLosses = (coin : ℕ) → Tells (task.Audit coin) (audit_input coin) (λ read. PrintsLoss (record { table = read.0; coin = coin; list = read.1 }))
+AuditsPrintLosses = (coin : ℕ) → Tells (task.Audit coin) (audit_input coin)
+    (λ read. PrintsLoss (record { table = read.0; coin = coin; list = read.1 }))
 
+-- `cross` prints what the best play of the first pay table is worth on the second
 abbrev pub CrossesPricePlay : Type 0
-CrossesPricePlay = (coin : ℕ) → Tells (task.Cross coin) (cross_input coin) (λ read. PrintsCross (record { played = read.0; priced = read.1; coin = coin }))
+CrossesPricePlay = (coin : ℕ) → Tells (task.Cross coin) (cross_input coin)
+    (λ read. PrintsCross (record { played = read.0; priced = read.1; coin = coin }))
 
+-- `multi` prints the moments of the total payment of several hands from one deal
 abbrev pub MultisPrintMoments : Type 0
-MultisPrintMoments = (coin hands : ℕ) → Tells (task.Multi coin hands) (multi_input coin) (λ read. PrintsMoments (record { table = read.0; coin = coin; hands = hands }))
+MultisPrintMoments = (coin hands : ℕ) → Tells (task.Multi coin hands) (multi_input coin)
+    (λ read. PrintsMoments (record { table = read.0; coin = coin; hands = hands }))
 
+-- `hits` prints the chances of the pay lines under the printed holds
 abbrev pub HitsPrintChances : Type 0
-HitsPrintChances = (coin : ℕ) → Tells (task.Hits coin) (hits_input coin) (λ read. PrintsChances (record { table = read.0; coin = coin }))
+HitsPrintChances = (coin : ℕ) → Tells (task.Hits coin) (hits_input coin)
+    (λ read. PrintsChances (record { table = read.0; coin = coin }))
 
+-- `meter` prints the best holds of every deal at every whole payment of its range
 abbrev pub MetersAreTold : Type 0
-MetersAreTold = (coin lo hi : ℕ) (name : Word) → Tells (task.Meter coin name lo hi) (meter_input coin name) (λ read. PrintsMeter read.0 coin name lo hi)
+MetersAreTold = (coin lo hi : ℕ) (name : Word) → Tells (task.Meter coin name lo hi) (meter_input coin name)
+    (λ read. PrintsMeter read.0 coin name lo hi)
 
+-- `compile` prints a list out of the pool, with what it loses
 abbrev pub CompiledListsLoseLittle : Type 0
 CompiledListsLoseLittle = (coin millionths : ℕ) → Tells (task.Compile coin millionths) (compile_input coin)
     (λ read. TellsList (record { table = read.0; coin = coin; millionths = millionths; pool = read.1 }))
@@ -83,14 +99,17 @@ pub record IsAuditedSo (p : Pooled) (due : Answer) : Type 0 where
   pub answered : (words : List Word) (file : List ℕ) → file ≡ written (table_text p.table) ++ due.text → Asks words (task.Audit p.coin)
       → answer words file ≡ done (written (audit_lines (listed p)))
 
+-- each list that `compile` prints is audited so
 abbrev pub CompiledListsAreAudited : Type 0
 CompiledListsAreAudited = (coin millionths : ℕ) → Tells (task.Compile coin millionths) (compile_input coin)
     (λ read. IsAuditedSo (record { table = read.0; coin = coin; millionths = millionths; pool = read.1 }))
 
 -- ---- logs
 
+-- `replay` prints what the holds of the log cost, or names the first game that breaks a law
 abbrev pub ReplaysTellCosts : Type 0
-ReplaysTellCosts = Tells task.Replay replay_input (λ read due. TellsCosts read.0 read.1 due ⊎ NamesBreak read.0 read.1 due)
+ReplaysTellCosts = Tells task.Replay replay_input
+    (λ read due. TellsCosts read.0 read.1 due ⊎ NamesBreak read.0 read.1 due)
 
 -- the log that is made breaks no law, and `replay` answers it with the same numbers
 pub record TellsPlayed (p : Played) (due : Answer) : Type 0 where
@@ -98,6 +117,7 @@ pub record TellsPlayed (p : Played) (due : Answer) : Type 0 where
   pub replayed : (words : List Word) → Asks words task.Replay
       → answer words (log_file p.table (log_of p)) ≡ done (written (replay_lines p.table (log_of p)))
 
+-- `play` prints the numbers of such a log
 abbrev pub PlaysAreReplayed : Type 0
 PlaysAreReplayed = (coin seed games : ℕ) → Tells (task.Play coin seed games) (play_input coin)
     (λ read. TellsPlayed (record { table = read.0; coin = coin; seed = seed; games = games }))
@@ -114,14 +134,18 @@ pub record TellsEachSession (table : PayTable) (csv : List ℕ) (due : Answer) :
   pub sessions : TellsSessions table csv due
   pub alone : AllByRecursion (IsAnsweredAlone table) (sessions_of table.deck csv)
 
+-- `sessions` prints the lines of each session, or names the first record that breaks its rule
 abbrev pub SessionsAreReplayed : Type 0
-SessionsAreReplayed = Tells task.Sessions sessions_input (λ read due. TellsEachSession read.0 read.1 due ⊎ NamesRecord read.0 read.1 due)
+SessionsAreReplayed = Tells task.Sessions sessions_input
+    (λ read due. TellsEachSession read.0 read.1 due ⊎ NamesRecord read.0 read.1 due)
 
 -- each session that a CSV text names has its lines in the answer
 abbrev pub HasEachSession : PayTable × List ℕ → Answer → Type 0
-HasEachSession read due = (name : Word) → refused_record read.0.deck read.1 ≡ None → knows name (names_of (games_in read.1)) ≡ true
+HasEachSession read due = (name : Word) → refused_record read.0.deck read.1 ≡ None
+    → knows name (names_of (games_in read.1)) ≡ true
     → HasLines due.text (lines_of read.0 read.1 name)
 
+-- `sessions` leaves out no session that the CSV text names
 abbrev pub SessionsAreInTheAnswer : Type 0
 SessionsAreInTheAnswer = Tells task.Sessions sessions_input HasEachSession
 
@@ -130,12 +154,14 @@ SessionsAreInTheAnswer = Tells task.Sessions sessions_input HasEachSession
 -- a check of all class lines that finds no broken rule
 abbrev pub ChecksTellEveryDeal : Type 0
 ChecksTellEveryDeal = (words : List Word) (count : ℕ) (bytes : List ℕ) (c : Certificate)
-    → Asks words (task.Check 1 count) → SpellsCertificate bytes c → length c.classes ≤ count → (answer words bytes).status ≡ Done → TellsEveryDeal c
+    → Asks words (task.Check 1 count) → SpellsCertificate bytes c → length c.classes ≤ count
+    → (answer words bytes).status ≡ Done → TellsEveryDeal c
 
 -- a check of some class lines that finds no broken rule
 abbrev pub ChecksTellWalkedDeals : Type 0
 ChecksTellWalkedDeals = (words : List Word) (from count : ℕ) (bytes : List ℕ) (c : Certificate)
-    → Asks words (task.Check from count) → SpellsCertificate bytes c → (answer words bytes).status ≡ Done → TellsWalkedDeals from count c
+    → Asks words (task.Check from count) → SpellsCertificate bytes c
+    → (answer words bytes).status ≡ Done → TellsWalkedDeals from count c
 
 -- `check`, walking these class lines, finds no broken rule in this text
 pub record IsYes (bytes : List ℕ) (walk : Walk) : Type 0 where
@@ -163,5 +189,7 @@ pub record IsCheckedWell (due : Answer) : Type 0 where
   pub short : length due.text ≤ 67108864
   pub well : (words : List Word) (from count : ℕ) → Asks words (task.Check from count) → (answer words due.text).status ≡ Done
 
+-- `certify` prints a certificate that `check` finds no broken rule in
 abbrev pub CertificatesAreChecked : Type 0
-CertificatesAreChecked = (coin : ℕ) → Tells (task.Certify coin) (certify_input coin) (λ read. IsCheckedWell)
+CertificatesAreChecked = (coin : ℕ) → Tells (task.Certify coin) (certify_input coin)
+    (λ read. IsCheckedWell)

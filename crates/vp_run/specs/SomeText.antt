@@ -18,6 +18,7 @@ use Rattle.vp_run.specs.declared.job.HeapJob.TheVariants as heap
 use Rattle.vp_run.specs.declared.job.LentJob.{LentJob}
 use Rattle.vp_run.specs.declared.job.LentJob.TheVariants as lent
 
+-- the text of a job that takes no memory but what it is lent has a byte at least
 abbrev pub lent_some : (job : LentJob) → 0 < length (lent_due job).text
 lent_some (lent.Deal job) = deal_some job
 lent_some (lent.Certify job) = certify_some job
@@ -29,6 +30,7 @@ lent_some (lent.Meter job) = meter_some job
 lent_some (lent.Multi job) = multi_some job
 lent_some (lent.Hits job) = hits_some job
 
+-- so has that of a job that takes memory of its own
 abbrev pub heap_some : (job : HeapJob) → 0 < length (heap_due job).said.text
 heap_some (heap.Sessions job) = sessions_some job
 heap_some (heap.Play job) = play_some job

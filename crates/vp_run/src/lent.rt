@@ -2,6 +2,7 @@
 
 ghost use Rattle.std.specs.Prelude.{◌≡◌, ◌↔◌, IfErr, IfOk, length, map};
 ghost use Rattle.vp_answer.specs.Lent.{EndsLent};
+ghost use Rattle.vp_answer.specs.Outcome.{Unread};
 ghost use Rattle.vp_run.specs.Answer.{answer, tables_answer, usage};
 ghost use Rattle.vp_run.specs.Memory.{IsEnough, IsShort, IsTooLong, WantsMore};
 
@@ -66,7 +67,8 @@ pub fn words_to_lend(words: &[&str], bytes: &[u8]) -> Result<usize, Status>
 
 /// Writes the answer to words that are no command.
 #[tactic(auto, unfolding(crate::specs::Answer::usage))]
-fn write_usage<K: Sink>(sink: &mut K) -> Status
+pub(crate) fn write_usage<K: Sink>(sink: &mut K) -> Status
+    ensures unread { Unread usage (K.told sink.old) (K.told sink.new) result }
     ensures ends { EndsLent usage (K.told sink.old) (K.told sink.new) result }
     ensures long { result ≡ Status.TooLong → ⊥ }
     ensures memory { result ≡ Status.NoMemory → ⊥ }
@@ -79,7 +81,8 @@ fn write_usage<K: Sink>(sink: &mut K) -> Status
 
 /// Writes the built-in tables.
 #[tactic(auto, unfolding(crate::specs::Answer::tables_answer))]
-fn write_tables<K: Sink>(sink: &mut K) -> Status
+pub(crate) fn write_tables<K: Sink>(sink: &mut K) -> Status
+    ensures unread { Unread tables_answer (K.told sink.old) (K.told sink.new) result }
     ensures ends { EndsLent tables_answer (K.told sink.old) (K.told sink.new) result }
     ensures long { result ≡ Status.TooLong → ⊥ }
     ensures memory { result ≡ Status.NoMemory → ⊥ }

@@ -3,15 +3,15 @@
 ghost use Rattle.std.specs.Prelude.{◌≡◌, [], map, true, false};
 ghost use Rattle.vp_answer.specs.Closing.{TookNothing};
 ghost use Rattle.vp_answer.specs.Outcome.{Outcome, Unread};
-ghost use Rattle.vp_run.specs.Answer.{answer, needs_input, tables_answer, task_answer, usage};
+ghost use Rattle.vp_run.specs.Answer.{answer, needs_input, task_answer};
 ghost use Rattle.vp_command.specs.Commands.{InRange};
 
 use crate::job::job_of;
-use crate::tables::put_tables;
+use crate::lent::{write_tables, write_usage};
 use std::alloc::Global;
 use vp_answer::{Status, close, write_read};
 use vp_command::{Command, Task, command_of};
-use vp_io::{Blocks, ReadStop, Sink, Source, WriteFault, put, read_all};
+use vp_io::{Blocks, ReadStop, Sink, Source, read_all};
 
 /// The answer to words that are no command.
 pub(crate) const USAGE: &[u8; 6] = b"usage\n";
@@ -64,28 +64,6 @@ pub fn vpoker_in_blocks<S: Source, K: Sink>(
     let mut blocks = Blocks::new(sink);
     let status = vpoker(alloc, words, source, &mut blocks);
     close(status, blocks)
-}
-
-/// Writes the answer to words that are no command.
-#[tactic(auto, unfolding(crate::specs::Answer::usage))]
-fn write_usage<K: Sink>(sink: &mut K) -> Status
-    ensures { Unread usage (K.told sink.old) (K.told sink.new) result }
-{
-    match put(sink, USAGE) {
-        Ok(()) => Status::Usage,
-        Err(WriteFault) => Status::WriteFault,
-    }
-}
-
-/// Writes the built-in tables.
-#[tactic(auto, unfolding(crate::specs::Answer::tables_answer))]
-fn write_tables<K: Sink>(sink: &mut K) -> Status
-    ensures { Unread tables_answer (K.told sink.old) (K.told sink.new) result }
-{
-    match put_tables(sink) {
-        Ok(()) => Status::Done,
-        Err(WriteFault) => Status::WriteFault,
-    }
 }
 
 /// Reads the input of a task and writes its answer.
