@@ -7,7 +7,7 @@ use vp_pay::samples::{
     DEUCES_AND_ACE, GREATEST, JACKS, KICKER, LONG, ONE_JOKER, OPERATORS_JACKS, TWO_JOKERS, ZERO,
 };
 use vp_region::Region;
-use vp_run::{Status, in_region, region_words, served, words_to_lend};
+use vp_run::{Status, in_region, region_words, served, vpoker_lent, words_to_lend};
 
 pub(crate) const ROYAL_DRAW: &[u8] = b"deal As Ks Qs Js 4s\n";
 
@@ -212,5 +212,27 @@ fn served_in_lent_words(rt: HostRuntime) -> Result<(), Fail> {
     let mut sink = MemSink::new(&mut room, 512, &[]);
     assert!(rt; served(&["deal", "1"], &input, region.words(), &mut sink).is_ok());
     assert_eq!(rt; sink.taken(), ROYAL_DRAW_ANSWER);
+    Ok(())
+}
+
+// Words of memory that are lent: enough of them with any numbers in them, one too few, and a command for which no number
+// is enough.
+#[test]
+fn lent_words(rt: HostRuntime) -> Result<(), Fail> {
+    let input = joined(rt.alloc(), JACKS, ROYAL_DRAW)?;
+    let cases: [(&[&str], &[u8], usize, u64, Status, &[u8]); 4] = [
+        (&["deal", "1"], &input, 2_893_163, 0, Status::NoMemory, b""),
+        (&["deal", "1"], &input, 2_893_164, 0, Status::Done, ROYAL_DRAW_ANSWER),
+        (&["deal", "1"], &input, 2_893_164, u64::MAX, Status::Done, ROYAL_DRAW_ANSWER),
+        (&["play", "1", "1", "1"], JACKS, 2_893_164, 0, Status::NoMemory, b""),
+    ];
+    for (words, bytes, lent, number, due, text) in cases {
+        let mut region = Region::open(rt.alloc(), lent)?;
+        region.words().fill(number);
+        let mut room = [0; 512];
+        let mut sink = MemSink::new(&mut room, 512, &[]);
+        let status = vpoker_lent(words, bytes, region.words(), &mut sink);
+        assert_eq!(rt; (status, sink.taken()), (due, text));
+    }
     Ok(())
 }
