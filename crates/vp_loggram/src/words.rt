@@ -9,7 +9,7 @@ ghost use Rattle.vp_loggram.specs.Reading.{cards_up_to, event_of};
 use crate::Event;
 use arrayvec::ArrayVec;
 use vp_card::{Card, in_deck};
-use vp_pay::{five_cards, next_card};
+use vp_pay::five_cards;
 use vp_text::{Words, key_word, next_number};
 
 /// Takes at most five cards, and this word behind them.
@@ -18,17 +18,19 @@ fn cards_up_to(words: &mut Words, key: &[u8]) -> Option<ArrayVec<Card, 5>>
     ensures { Takes (λ cards. cards.items) result words.new.words (cards_up_to key.now words.old.words) }
 {
     let mut cards = ArrayVec::new();
-    'cards: while !words.next_is(key) {
+    'cards: while let Some(word) = words.next() {
+        if word == key {
+            return Some(cards);
+        }
         if cards.is_full() {
             return None;
         }
-        let Some(card) = next_card(words) else {
+        let Some(card) = Card::read(word) else {
             return None;
         };
         cards.push(card);
     }
-    words.next();
-    Some(cards)
+    None
 }
 
 fn is_of_deck(event: &Event, deck: u8) -> bool

@@ -1,7 +1,7 @@
 -- Where a list is cut: lines at line feeds, words at blanks.
-use Rattle.std.proofs.Common.{◌≡◌, ℕ, zero, suc, ◌+◌, ◌<◌, ◌≤◌, Bool, true, false, not, cond, ltb, eqb, List, [], ◌∷◌, length, get_or, take, drop, Some, None, refl, sym, ap, subst, ◌∙◌, arith, position, length-take}
+use Rattle.std.proofs.Common.{◌≡◌, ℕ, zero, suc, ◌+◌, ◌<◌, ◌≤◌, Bool, true, false, not, cond, ltb, nat_lt, eqb, List, [], ◌∷◌, length, get_or, take, drop, Some, None, refl, sym, ap, subst, ◌∙◌, arith, position, length-take}
 use Rattle.std.specs.List.{slice_split, onto_first, position_or_len, filter}
-use Rattle.std.proofs.lemmas.Bool.{ltb-false, ne_eqb}
+use Rattle.std.proofs.lemmas.Bool.{lt-ltb, ltb-false, ne_eqb}
 use Rattle.std.proofs.lemmas.List.{drop_more, get_or-drop}
 use Rattle.std.proofs.lemmas.List.Quantifiers.{position-Some}
 use Rattle.std.proofs.lemmas.List.Sums.{position_or_len_is, fails_before_first}
@@ -98,6 +98,18 @@ word_found text i starts e =
     let pos : 0 < i = positive is_blank text i starts s.1 in
     let tail : words_in (drop i text) ≡ words_in (drop (i + 1) text) = ap words_in (drop_more text i 0 lt) ∙ blank_dropped (get_or text i 0) (drop (i + 1) text) s.1 in
     ap (filter (λ word. not (is_empty word))) (split_found is_blank text i e) ∙ word_first (take i text) (slice_split is_blank (drop (i + 1) text)) (omega (arith, length-take i text)) ∙ ap (λ (ws : List (List ℕ)). take i text ∷ ws) (sym tail)
+
+-- a word of two bytes between blanks
+pub two_found : (text : List ℕ) → 4 ≤ length text → is_blank (get_or text 0 0) ≡ true → is_blank (get_or text 1 0) ≡ false → is_blank (get_or text 2 0) ≡ false → is_blank (get_or text 3 0) ≡ true
+    → words_in text ≡ take 2 (drop 1 text) ∷ words_in (drop 2 (drop 1 text))
+two_found (s ∷ a ∷ b ∷ t ∷ rest) long front first second behind =
+    let inside : nat_lt 2 (length (a ∷ b ∷ t ∷ rest)) ≡ true = lt-ltb 2 (length (a ∷ b ∷ t ∷ rest)) (omega arith) in
+    let at : position is_blank (a ∷ b ∷ t ∷ rest) ≡ Some 2 = rw (first, second, behind, inside) refl in
+    blank_dropped s (a ∷ b ∷ t ∷ rest) front ∙ word_found (a ∷ b ∷ t ∷ rest) 2 first at
+two_found [] long front first second behind = absurd (omega arith)
+two_found (s ∷ []) long front first second behind = absurd (omega arith)
+two_found (s ∷ a ∷ []) long front first second behind = absurd (omega arith)
+two_found (s ∷ a ∷ b ∷ []) long front first second behind = absurd (omega arith)
 
 pub word_missing : (text : List ℕ) → 0 < length text → position is_blank text ≡ None → words_in text ≡ text ∷ []
 word_missing text some e = ap (filter (λ word. not (is_empty word))) (split_missing is_blank text e) ∙ word_first text [] some

@@ -1,6 +1,6 @@
 //! Where a text is cut into lines, and a line into words.
 
-ghost use Rattle.std.specs.Prelude.{◌≡◌, ◌<◌, ◌==◌, false, not, ◌∷◌, length, slice_index, position};
+ghost use Rattle.std.specs.Prelude.{◌≡◌, ◌<◌, ◌==◌, false, not, ◌∷◌, length, slice_index, position, IfSome};
 ghost use Rattle.std.specs.List.{before_first};
 ghost use Rattle.std.specs.Str.Lines.{strip_carriage_return};
 ghost use Rattle.vp_text.specs.Lines.{is_blank, after_feed, lines_in, words_in, said};
@@ -87,6 +87,18 @@ pub(crate) fn from_word(text: &[u8]) -> &[u8]
         Some(start) => text.split_at(start).1,
         None => text.split_at(text.len()).1,
     }
+}
+
+/// The first word, of two bytes with a space on either side, as most cards stand in a line, and what is behind it. Where
+/// `None` is answered the first word may still be one.
+pub(crate) fn cut_two(text: &[u8]) -> Option<(&[u8], &[u8])>
+    ensures { IfSome result (λ cut. words_in text.now ≡ cut.0.now ∷ words_in cut.1.now) }
+{
+    if text.len() < 4 || text[0] != b' ' || text[3] != b' ' || blank(text[1]) || blank(text[2]) {
+        return None;
+    }
+    let (_, text) = text.split_at(1);
+    Some(text.split_at(2))
 }
 
 /// The first word, and what is behind it.

@@ -6,7 +6,7 @@ ghost use Rattle.vp_text.specs.Pieces.{none_left};
 ghost use Rattle.vp_text.specs.Reading.{next_is, only_is};
 
 use crate::Refused;
-use crate::cutting::{cut_line, cut_word, from_word, what_is_said};
+use crate::cutting::{cut_line, cut_two, cut_word, from_word, what_is_said};
 use std::marker::Model;
 
 /// The words of one line that are left, from left to right.
@@ -62,6 +62,10 @@ impl<'a> Words<'a> {
         // Exactly where no word is left there is none, and nothing changes.
         ensures next { MatchOption result ((self.old.words ≡ []) × (self.new ≡ self.old)) (λ word. self.old.words ≡ word.now ∷ self.new.words) }
     {
+        if let Some((word, rest)) = cut_two(self.rest) {
+            self.rest = rest;
+            return Some(word);
+        }
         let text = from_word(self.rest);
         if text.is_empty() {
             return None;

@@ -15,6 +15,10 @@ fn with_digit(value: u64, byte: u8) -> Option<u64>
     if digit > 9 {
         return None;
     }
+    // Ten times as much, and a digit, is below 2^64.
+    if value <= 1844674407370955160 {
+        return Some(value * 10 + u64::from(digit));
+    }
     value.checked_mul(10)?.checked_add(u64::from(digit))
 }
 
