@@ -10,7 +10,7 @@ use crate::Event;
 use arrayvec::ArrayVec;
 use vp_card::{Card, in_deck};
 use vp_pay::five_cards;
-use vp_text::{Words, key_word, next_number};
+use vp_text::{Words, next_number, plain_key_word};
 
 /// Takes at most five cards, and this word behind them.
 #[tactic(auto, unfolding(crate::specs::Reading::cards_up_to))]
@@ -44,15 +44,15 @@ fn is_of_deck(event: &Event, deck: u8) -> bool
 pub(crate) fn event_of(words: &mut Words, deck: u8) -> Option<Event>
     ensures { result ≡ event_of deck words.old.words }
 {
-    key_word(words, b"game")?;
+    plain_key_word(words, b"game")?;
     let bet = next_number(words)?;
-    key_word(words, b"deal")?;
+    plain_key_word(words, b"deal")?;
     let deal = five_cards(words)?;
-    key_word(words, b"hold")?;
+    plain_key_word(words, b"hold")?;
     let hold = cards_up_to(words, b"draw")?;
     let draw = cards_up_to(words, b"pay")?;
     let pay = next_number(words)?;
-    key_word(words, b"credits")?;
+    plain_key_word(words, b"credits")?;
     let credits = next_number(words)?;
     words.end()?;
     let event = Event {

@@ -35,6 +35,9 @@ unwrap-requires c = rw (read_is c) refl
 pub returns-clause-log : goal.returns-clause-log
 returns-clause-log c = log_is c
 
+pub returns-clause-grammar : goal.returns-clause-grammar
+returns-clause-grammar c = rw (log_is c) (log_accepted c.args.self.now (subst IsPlayed c.self.view_is c.self.invariant)).grammar
+
 pub returns-clause-lawful : goal.returns-clause-lawful
 returns-clause-lawful c = rw (log_is c) (log_accepted c.args.self.now (subst IsPlayed c.self.view_is c.self.invariant)).lawful
 
