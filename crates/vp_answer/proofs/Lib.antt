@@ -1,3 +1,4 @@
 pub mod Ends
 pub mod Closing
 pub mod SomeAnswers
+pub mod Firsts

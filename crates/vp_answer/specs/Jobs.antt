@@ -1,6 +1,6 @@
 -- What a job takes and says, and what is made of an input that was read. They are this program's own (docs/FORMATS.md, Commands).
 use Rattle.std.specs.Prelude.{ℕ, Bool, true, false, List, Result, Ok, Err}
-use Rattle.vp_answer.specs.Answers.{Answer, Said, answer_of, done, stop_answer}
+use Rattle.vp_answer.specs.Answers.{Answer, Said, answer_of, done}
 use Rattle.vp_answer.specs.declared.stop.Stop.{Stop}
 use Rattle.vp_answer.specs.declared.stop.Stop.TheVariants.{Refused as Refusal}
 use Rattle.vp_answer.specs.declared.work.Job.{Job}

@@ -1,5 +1,4 @@
 -- How an answer ends that is written in lent memory. The ways are this program's own (docs/FORMATS.md, Refusals and the exit status).
-use Rattle.std.specs.Prelude.{ℕ, List}
 use Rattle.vp_io.specs.Streams.{Told}
 use Rattle.vp_answer.specs.Answers.{Answer}
 use Rattle.vp_answer.specs.Outcome.{Answered, CutOff, Silent}

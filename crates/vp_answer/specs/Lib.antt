@@ -5,3 +5,4 @@ pub mod Outcome
 pub mod Lent
 pub mod Asking
 pub mod Closing
+pub mod Firsts

@@ -13,3 +13,4 @@ pub mod Rows
 pub mod Sizes
 pub mod SoFar
 pub mod Stepping
+pub mod Marks

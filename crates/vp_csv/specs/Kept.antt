@@ -1,5 +1,5 @@
 -- How sessions are kept while their records are read: each by its name, and by the text of its log so far.
-use Rattle.std.specs.Prelude.{◌≡◌, ℕ, ◌<◌, ◌≤◌, Bool, true, List, [], ◌∷◌, ◌++◌, length, map, get_or, slice_set, Option, Some, None, Result, Ok, Err, bytes_eq, codes, if◌then◌else◌}
+use Rattle.std.specs.Prelude.{◌≡◌, ℕ, ◌<◌, ◌≤◌, ◌+◌, ◌*◌, ◌%◌, ◌^◌, Bool, true, List, [], ◌∷◌, ◌++◌, length, map, get_or, slice_set, Option, Some, None, Result, Ok, Err, bytes_eq, codes, if◌then◌else◌}
 use Rattle.std.specs.List.{list_any, AllByRecursion}
 use Rattle.vp_card.specs.Cards.{IsDeck}
 use Rattle.vp_text.specs.Lines.{Word, Feed, feed_of}
@@ -17,6 +17,11 @@ use Rattle.vp_csv.specs.Sessions.{Session, Sorted, log_of, own, or_zero}
 pub record Kept : Type 0 where
   pub name : Word
   pub text : List ℕ
+
+-- a number of a name, which two names seldom share: no public clause rests on it
+unfoldable pub mark_of : Word → ℕ
+mark_of [] = 0
+mark_of (byte ∷ name) = (mark_of name * 31 + byte) % 2 ^ 32
 
 -- ---- one more record
 

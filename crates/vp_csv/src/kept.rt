@@ -1,29 +1,78 @@
 //! Sessions, while their records are read.
 
-ghost use Rattle.std.specs.Prelude.{◌≡◌, ◌<◌, ◌∷◌, [], length, map, bytes_eq, OnOk, IfOk};
+ghost use Rattle.std.specs.Prelude.{◌≡◌, ◌<◌, ◌^◌, ◌∷◌, [], length, map, bytes_eq, OnOk, IfOk};
 ghost use Rattle.std.specs.List.{position};
 ghost use Rattle.vp_text.specs.Written.{line_of};
 ghost use Rattle.vp_loggram.specs.Spelling.{event_words};
-ghost use Rattle.vp_csv.specs.Kept.{closed, has_name, start_line, with_text, with_text_at};
+ghost use Rattle.vp_csv.specs.Kept.{closed, has_name, mark_of, start_line, with_text, with_text_at};
 
 use std::alloc::{AllocError, Global};
 use std::marker::Model;
 use vp_loggram::{Event, append_end, append_start};
 use vp_pay::Name;
 
-/// A session: its name, and the text of its log.
+/// A number below 2^32 that two names seldom share.
+#[tactic(auto, using(crate::proofs::Marks::no_byte, crate::proofs::Marks::next_byte))]
+fn mark_of(name: &[u8]) -> u64
+    ensures value { result ≡ mark_of name.now }
+    ensures below { result < 2 ^ 32 }
+{
+    let mut mark: u64 = 0;
+    let mut left = name.len();
+    'bytes: while left > 0 {
+        left -= 1;
+        mark = (mark * 31 + u64::from(name[left])) % 4294967296;
+    }
+    mark
+}
+
+/// A name that is sought, with its mark.
+#[derive(Drop)]
+struct Sought<'a> {
+    name: &'a [u8],
+    mark: u64,
+}
+
+impl<'a> Model for Sought<'a> {
+    ghost use Rattle.std.specs.Prelude.{◌≡◌};
+    ghost use Rattle.vp_text.specs.Lines.{Word};
+    ghost use Rattle.vp_csv.specs.Kept.{mark_of};
+
+    ghost Value = { Word };
+
+    ghost view = { λ s. s.name.now };
+
+    ghost invariant = { λ s. s.mark ≡ mark_of s.name.now };
+}
+
+impl<'a> Sought<'a> {
+    fn new(name: &'a [u8]) -> Sought<'a>
+        ensures { result ≡ name.now }
+    {
+        Sought {
+            name,
+            mark: mark_of(name),
+        }
+    }
+}
+
+/// A session: its name with its mark, and the text of its log.
 #[derive(Drop)]
 pub(crate) struct Kept {
     name: Name,
+    mark: u64,
     text: Vec<u8>,
 }
 
 impl Model for Kept {
-    ghost use Rattle.vp_csv.specs.Kept.{Kept};
+    ghost use Rattle.std.specs.Prelude.{◌≡◌};
+    ghost use Rattle.vp_csv.specs.Kept.{Kept, mark_of};
 
     ghost Value = { Kept };
 
     ghost view = { λ k. record { name = k.name; text = k.text.items } };
+
+    ghost invariant = { λ k. k.mark ≡ mark_of k.name };
 }
 
 impl Kept {
@@ -34,7 +83,8 @@ impl Kept {
     {
         let mut text = Vec::new(alloc);
         append_start(&mut text, start)?;
-        Ok(Kept { name, text })
+        let mark = mark_of(name.text());
+        Ok(Kept { name, mark, text })
     }
 
     pub(crate) fn name(&self) -> &Name
@@ -49,10 +99,12 @@ impl Kept {
         self.text.as_slice()
     }
 
-    fn has_name(&self, name: &[u8]) -> bool
-        ensures { result ≡ bytes_eq self.now.name name.now }
+    /// Names are compared where their marks agree alone.
+    #[tactic(auto, using(crate::proofs::Marks::differ))]
+    fn has_name(&self, sought: &Sought) -> bool
+        ensures { result ≡ bytes_eq self.now.name sought.now }
     {
-        self.name.text() == name
+        self.mark == sought.mark && self.name.text() == sought.name
     }
 
     /// Appends a game.
@@ -74,7 +126,10 @@ impl Kept {
 pub(crate) fn place_of(sessions: &[Kept], name: &[u8]) -> Option<usize>
     ensures { result ≡ position (has_name name.now) sessions.now }
 {
-    sessions.iter().position(|session| session.has_name(name))
+    let sought = Sought::new(name);
+    sessions
+        .iter()
+        .position(|session| session.has_name(&sought))
 }
 
 /// Appends a game to the session at a place.

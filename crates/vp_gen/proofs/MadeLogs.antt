@@ -3,6 +3,7 @@ use Rattle.std.proofs.Common.{◌≡◌, ℕ, [], ◌∷◌, ◌++◌, sym, subs
 use Rattle.std.specs.Prelude.{codes, Result, Ok}
 use Rattle.std.specs.Fmt.{decimal}
 use Rattle.std.proofs.lemmas.List.Concat.{flat_map-cons}
+use Rattle.vp_card.specs.Cards.{IsDeck}
 use Rattle.vp_text.specs.Lines.{Feed, feed_of}
 use Rattle.vp_text.specs.Sections.{Starts}
 use Rattle.vp_text.specs.Written.{line_of, written}
@@ -34,11 +35,11 @@ log_stands p feed is same =
     subst (λ (f : Feed). StandsAlone (log_of p) f) (sym same) (record { left = read.left; front = front; end = read.end })
 
 -- a reader that takes each log of the deck that stands in front takes this one
-pub takes_log : (p : Played) (n : ℕ) (before after : Feed) (result : Result LogValue Refused) → IsPlayed p → before ≡ feed_of (written (log_text (log_of p))) → p.table.deck ≡ n
-    → ((log : LogValue) (left : Feed) → IsLog n log → Starts log_text before log left → (result ≡ Ok log) × (after ≡ left)) → result ≡ Ok (log_of p)
-takes_log p n before after result is same deck takes =
+pub takes_log : (p : Played) (n : ℕ) (before : Feed) (result : Result LogValue Refused) → IsPlayed p → before ≡ feed_of (written (log_text (log_of p))) → p.table.deck ≡ n
+    → ((log : LogValue) (left : Feed) → IsDeck n → IsLog n log → Starts log_text before log left → result ≡ Ok log) → result ≡ Ok (log_of p)
+takes_log p n before result is same deck takes =
     let stands = log_stands p before is same in
-    (takes (log_of p) stands.left (subst (λ m. IsLog m (log_of p)) deck (log_accepted p is).grammar) stands.front).0
+    takes (log_of p) stands.left (subst IsDeck deck is.bet.rules.known_deck) (subst (λ m. IsLog m (log_of p)) deck (log_accepted p is).grammar) stands.front
 
 -- ---- the lines
 

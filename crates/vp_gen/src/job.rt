@@ -79,7 +79,8 @@ impl PlayJob {
         Ok(summary_at(&game, &self.read_log(&text)))
     }
 
-    /// The log that its text says. It is in the grammar, whatever the seed, and no game breaks a law.
+    /// The log that its text says. It is in the grammar, whatever the seed, and no game breaks a law: so its text is not
+    /// read before its games are.
     fn read_log<'a>(&self, text: &'a [u8]) -> Log<'a>
         requires { text.now ≡ written (log_text (log_of self.now)) }
         ensures log { result ≡ log_of self.now }
@@ -88,7 +89,7 @@ impl PlayJob {
         ensures bets { AllBet self.now.coin result.events }
     {
         let deck = self.table.deck;
-        Log::read(&mut Lines::new(text), deck).unwrap()
+        Log::open(&mut Lines::new(text), deck).unwrap()
     }
 }
 

@@ -1,5 +1,5 @@
 -- Logs are read exactly: each from its spelling, and from no other lines.
-use Rattle.std.proofs.Common.{◌≡◌, ℕ, ◌≤◌, List, [], ◌∷◌, ◌++◌, refl, sym, ◌∙◌, arith}
+use Rattle.std.proofs.Common.{◌≡◌, ℕ, ◌≤◌, List, [], ◌∷◌, ◌++◌, refl, ap, sym, ◌∙◌, arith}
 use Rattle.std.specs.Prelude.{Result, Ok, Err, codes}
 use Rattle.std.specs.Fmt.{decimal}
 use Rattle.std.specs.List.{AllByRecursion}
@@ -7,13 +7,16 @@ use Rattle.vp_card.specs.Cards.{IsDeck}
 use Rattle.vp_text.specs.Lines.{Feed}
 use Rattle.vp_text.specs.ExactReaders.{Exact, Keeps, AreClosed, closed_text}
 use Rattle.vp_text.specs.Reading.{◌>>=◌, both, Gives}
+use Rattle.vp_text.specs.Sections.{Starts}
 use Rattle.vp_text.specs.Streams.{always, any_behind, front_items, skipped}
 use Rattle.vp_text.specs.declared.refused.Refused.{Refused}
+use Rattle.vp_text.proofs.Answered.{only_read}
 use Rattle.vp_text.proofs.Joined.{Exact-both, Exact-mapped}
 use Rattle.vp_text.proofs.Numbers.{number_within_exact}
 use Rattle.vp_text.proofs.Sequences.{Exact-keyed}
 use Rattle.vp_text.proofs.Rows.{Exact-closed}
 use Rattle.vp_text.proofs.Sections.{Exact-line}
+use Rattle.vp_text.proofs.Spelled.{ok_is}
 use Rattle.vp_text.proofs.Streams.{skipped_is}
 use Rattle.vp_loggram.specs.Logs.{IsEvent, IsLog, LogValue}
 use Rattle.vp_loggram.specs.Reading.{event_of}
@@ -101,3 +104,24 @@ log_read-is n feed = by_start (start_line feed)
 pub gives_log : (n : ℕ) (result : Result LogValue Refused) (before left : Feed) → Gives (λ (log : LogValue). log) result left (log_read n before) → Gives (λ (log : LogValue). log) result left (log_at n before)
 gives_log n (Ok log) before left gives = sym (log_read-is n before) ∙ gives
 gives_log n (Err e) before left gives = sym (log_read-is n before) ∙ gives
+
+-- ---- a log that is known to be spelled, of which the first line alone is read
+
+abbrev as_read : LogValue → Feed → LogRead
+as_read log rest = Ok (log, rest)
+
+-- its log is the one that is read
+opened_first : (n : ℕ) (log : LogValue) (left : Feed) (read : LogRead) → (read >>= skipped_behind n) ≡ Ok (log, left) → (rest : Feed) × (read ≡ Ok (log, rest))
+opened_first n log left (Err e) is = absurd cc
+opened_first n log left (Ok p) is = (p.1, ap (λ (l : LogValue). as_read l p.1) (by_games (skipped (codes "end") (event_of n) p.1) is))
+  where
+    by_games : (r : Result (Unit {0} × Feed) ℕ) → (r >>= (λ rest. as_read p.0 rest.1)) ≡ as_read log left → p.0 ≡ log
+    by_games (Ok u) e = ap (λ (q : LogValue × Feed). q.0) (ok_is (p.0, u.1) (log, left) e)
+    by_games (Err line) e = absurd cc
+
+pub opened_only : (n : ℕ) (result : Result LogValue Refused) (before after : Feed) → Gives (λ (log : LogValue). log) result after (log_opened n before)
+    → (log : LogValue) (left : Feed) → IsDeck n → IsLog n log → Starts log_text before log left → result ≡ Ok log
+unfolding log_read games_skipped
+opened_only n result before after gives log left deck is front =
+    let opened = opened_first n log left (log_opened n before) (log_read-is n before ∙ (Exact-log n deck).again before left log is front) in
+    (only_read result after (log_opened n before) gives log opened.0 opened.1).0

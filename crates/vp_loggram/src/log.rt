@@ -76,10 +76,8 @@ fn skip_games(lines: &mut Lines, deck: u8) -> Result<(), Refused>
 }
 
 impl<'a> Log<'a> {
-    /// Reads the first line of a log, whose games are those in front of the lines that are left. The log is read once they
-    /// are passed, up to its `end`.
     #[tactic(auto, unfolding(crate::specs::Sections::log_opened))]
-    pub fn open(lines: &mut Lines<'a>, deck: u8) -> Result<Log<'a>, Refused>
+    fn log_opened(lines: &mut Lines<'a>, deck: u8) -> Result<Log<'a>, Refused>
         ensures read { Gives (λ log. log) result lines.new (log_opened deck lines.old) }
         ensures games { IfOk result (λ log. log.events ≡ events_in_front deck lines.new.lines) }
         ensures leaves { Leaves lines.old lines.new }
@@ -91,6 +89,20 @@ impl<'a> Log<'a> {
             lines: lines.again(),
             deck,
         })
+    }
+
+    /// Reads the first line of a log, whose games are those in front of the lines that are left. The log is read once they
+    /// are passed, up to its `end`; where a log is known to be spelled there, they need not be.
+    pub fn open(lines: &mut Lines<'a>, deck: u8) -> Result<Log<'a>, Refused>
+        ensures read { Gives (λ log. log) result lines.new (log_opened deck lines.old) }
+        ensures games { IfOk result (λ log. log.events ≡ events_in_front deck lines.new.lines) }
+        // What is spelled so is opened, whatever follows.
+        ensures only { (log : LogValue) (left : Feed) → IsDeck deck → IsLog deck log → Starts log_text lines.old log left
+            → result ≡ Ok log }
+        ensures leaves { Leaves lines.old lines.new }
+        ensures at { IfErr result (λ e. IsAt e.line lines.new) }
+    {
+        Log::log_opened(lines, deck)
     }
 
     #[tactic(auto, unfolding(crate::specs::Sections::log_read))]

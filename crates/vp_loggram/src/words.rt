@@ -9,8 +9,8 @@ ghost use Rattle.vp_loggram.specs.Reading.{cards_up_to, event_of};
 use crate::Event;
 use arrayvec::ArrayVec;
 use vp_card::{Card, in_deck};
-use vp_pay::{five_cards, next_card};
-use vp_text::{Words, key_word, next_number};
+use vp_pay::five_cards;
+use vp_text::{Words, next_number, plain_key_word};
 
 /// Takes at most five cards, and this word behind them.
 #[tactic(auto, unfolding(crate::specs::Reading::cards_up_to))]
@@ -18,17 +18,19 @@ fn cards_up_to(words: &mut Words, key: &[u8]) -> Option<ArrayVec<Card, 5>>
     ensures { Takes (λ cards. cards.items) result words.new.words (cards_up_to key.now words.old.words) }
 {
     let mut cards = ArrayVec::new();
-    'cards: while !words.next_is(key) {
+    'cards: while let Some(word) = words.next() {
+        if word == key {
+            return Some(cards);
+        }
         if cards.is_full() {
             return None;
         }
-        let Some(card) = next_card(words) else {
+        let Some(card) = Card::read(word) else {
             return None;
         };
         cards.push(card);
     }
-    words.next();
-    Some(cards)
+    None
 }
 
 fn is_of_deck(event: &Event, deck: u8) -> bool
@@ -42,15 +44,15 @@ fn is_of_deck(event: &Event, deck: u8) -> bool
 pub(crate) fn event_of(words: &mut Words, deck: u8) -> Option<Event>
     ensures { result ≡ event_of deck words.old.words }
 {
-    key_word(words, b"game")?;
+    plain_key_word(words, b"game")?;
     let bet = next_number(words)?;
-    key_word(words, b"deal")?;
+    plain_key_word(words, b"deal")?;
     let deal = five_cards(words)?;
-    key_word(words, b"hold")?;
+    plain_key_word(words, b"hold")?;
     let hold = cards_up_to(words, b"draw")?;
     let draw = cards_up_to(words, b"pay")?;
     let pay = next_number(words)?;
-    key_word(words, b"credits")?;
+    plain_key_word(words, b"credits")?;
     let credits = next_number(words)?;
     words.end()?;
     let event = Event {

@@ -1,5 +1,5 @@
 -- What the cost of a lawful game is.
-use Rattle.std.proofs.Common.{◌≡◌, ℕ, ◌<◌, ◌≤◌, true, List, [], length, arith, ◌∙◌, subst, sym, refl, ◌-◌, Some, None, Option}
+use Rattle.std.proofs.Common.{◌≡◌, ℕ, ◌<◌, true, List, [], length, arith, ◌∙◌, subst, sym, refl, ◌-◌, Some, None, Option}
 use Rattle.std.specs.Prelude.{if◌then◌else◌, IfSome}
 use Rattle.std.specs.List.Sorted.{IsPermutation}
 use Rattle.vp_card.specs.Cards.{IsHand, all_differ, in_order}

@@ -13,23 +13,16 @@ use Rattle.vp_sets.specs.Sets.{has}
 use Rattle.vp_sets.proofs.Holds.{Dealt}
 use Rattle.vp_loggram.specs.Logs.{is_of_deck}
 use Rattle.vp_loggram.specs.declared.event.Event.{Event}
+use Rattle.vp_answer.specs.Firsts.{first_of}
+use Rattle.vp_answer.proofs.Firsts.{first_none, none_first, rest_none}
 use Rattle.vp_replay.specs.declared.rule.LogRule.{LogRule}
 use Rattle.vp_replay.specs.declared.rule.LogRule.TheVariants.{Deal, Hold, Count, Draw}
-use Rattle.vp_replay.specs.Rules.{broken_if, cards_breach, count_breach, deal_breach, draw_breach, first_of, first_wrong, hold_breach, misplaced, wrong_deal, wrong_draw, wrong_hold}
+use Rattle.vp_replay.specs.Rules.{broken_if, cards_breach, count_breach, deal_breach, draw_breach, first_wrong, hold_breach, misplaced, wrong_deal, wrong_draw, wrong_hold}
 use Rattle.vp_replay.specs.Costs.{hold_of}
 use Rattle.vp_replay.specs.LawfulGames.{AreLawfulCards}
 use Rattle.vp_replay.proofs.Masking.{right_once, none_among, some_among, among_none, holds}
 
 -- ---- where nothing is broken
-
--- the first of some is none: none of them is there
-pub first_none : {A : Type 0} (o : Option A) (more : List (Option A)) → first_of (o ∷ more) ≡ None → o ≡ None
-first_none None more e = refl
-first_none (Some x) more e = e
-
-pub rest_none : {A : Type 0} (o : Option A) (more : List (Option A)) → first_of (o ∷ more) ≡ None → first_of more ≡ None
-rest_none None more e = e
-rest_none (Some x) more e = absurd cc
 
 placed : (rule : LogRule) (o : Option (ℕ × ℕ)) → misplaced rule o ≡ None → o ≡ None
 placed rule None e = refl
@@ -200,9 +193,6 @@ lawful_dealt n e of five l = record {
 }
 
 -- ---- lawful cards break no law
-
-pub none_first : {A : Type 0} (o : Option A) (more : List (Option A)) → o ≡ None → first_of more ≡ None → first_of (o ∷ more) ≡ None
-none_first o more is rest = rw is rest
 
 pub kept_if : (b : Bool) (rule : LogRule) (said due : ℕ) → b ≡ false → broken_if b rule said due ≡ None
 kept_if b rule said due is = rw is refl

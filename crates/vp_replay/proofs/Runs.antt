@@ -4,12 +4,14 @@ use Rattle.std.specs.Prelude.{Option, ◌||◌, ◌==◌, nat_lt}
 use Rattle.std.proofs.lemmas.Bool.{eqb-true, le-ltb, ltb-false, not-false}
 use Rattle.vp_pay.specs.declared.table.PayTable.{PayTable}
 use Rattle.vp_loggram.specs.declared.event.Event.{Event}
+use Rattle.vp_answer.specs.Firsts.{first_of}
+use Rattle.vp_answer.proofs.Firsts.{first_none, none_first, rest_none}
 use Rattle.vp_replay.specs.declared.rule.Breach.{Breach}
 use Rattle.vp_replay.specs.declared.rule.Broken.{Broken}
 use Rattle.vp_replay.specs.declared.rule.LogRule.TheVariants.{Bet, Funds, Pay, Credits}
-use Rattle.vp_replay.specs.Rules.{bet_breach, break_of, cards_breach, credits_breach, first_break, first_of, funds_breach, or_later, paid, pay_breach}
+use Rattle.vp_replay.specs.Rules.{bet_breach, break_of, cards_breach, credits_breach, first_break, funds_breach, or_later, paid, pay_breach}
 use Rattle.vp_replay.specs.LawfulGames.{AreLawfulGames, IsLawfulGame}
-use Rattle.vp_replay.proofs.LawfulCards.{first_none, kept_cards, kept_if, lawful_cards, none_first, or_first, or_second, rest_none, right_count, unbroken}
+use Rattle.vp_replay.proofs.LawfulCards.{kept_cards, kept_if, lawful_cards, or_first, or_second, right_count, unbroken}
 
 -- ---- one more game
 

@@ -6,6 +6,7 @@ use Rattle.vp_card.specs.Cards.{in_order}
 use Rattle.vp_sets.specs.Sets.{has}
 use Rattle.vp_pay.specs.declared.table.PayTable.{PayTable}
 use Rattle.vp_wild.specs.Payment.{pay}
+use Rattle.vp_answer.specs.Firsts.{first_of}
 use Rattle.vp_loggram.specs.Logs.{LogValue}
 use Rattle.vp_loggram.specs.declared.event.Event.{Event}
 use Rattle.vp_replay.specs.declared.rule.Breach.{Breach}
@@ -16,12 +17,6 @@ use Rattle.vp_replay.specs.declared.rule.LogRule.TheVariants.{Bet, Funds, Deal, 
 -- where it is broken: the number that the log says, and the number due
 abbrev pub broken_if : Bool → LogRule → ℕ → ℕ → Option Breach
 broken_if broken rule said due = if broken then Some (record { rule = rule; said = said; due = due }) else None
-
--- the first that is there
-abbrev pub first_of : {A : Type 0} → List (Option A) → Option A
-first_of [] = None
-first_of (None ∷ more) = first_of more
-first_of (Some x ∷ more) = Some x
 
 -- ---- cards
 

@@ -4,6 +4,7 @@ use Rattle.std.specs.Fmt.{decimal}
 use Rattle.std.specs.List.{AllByRecursion}
 use Rattle.vp_text.specs.Lines.{Word}
 use Rattle.vp_text.specs.Sections.{Text}
+use Rattle.vp_text.specs.Written.{fraction}
 use Rattle.vp_pay.specs.declared.table.PayTable.{PayTable}
 use Rattle.vp_sets.specs.Draws.{common}
 use Rattle.vp_loggram.specs.Logs.{LogValue}
@@ -63,7 +64,7 @@ summary_lines n s =
     (codes "paid" ∷ decimal s.paid ∷ []) ∷
     (codes "credits" ∷ decimal s.credits ∷ []) ∷
     (codes "slips" ∷ decimal s.slips ∷ []) ∷
-    (codes "loss" ∷ decimal s.loss ∷ codes "/" ∷ decimal (common n) ∷ []) ∷ []
+    (codes "loss" ∷ fraction s.loss (common n)) ∷ []
 
 -- the lines of a log: its costs, and its numbers
 abbrev pub replay_lines : PayTable → LogValue → Text

@@ -1,7 +1,9 @@
 //! What the hold of a lawful game costs.
 
 ghost use Rattle.std.specs.Prelude.{◌≡◌, ◌<◌, true, if◌then◌else◌};
+ghost use Rattle.vp_card.specs.Cards.{in_deck};
 ghost use Rattle.vp_loggram.specs.Logs.{is_of_deck};
+ghost use Rattle.vp_draws.specs.Draws.{value};
 ghost use Rattle.vp_sets.specs.Draws.{mask_of};
 ghost use Rattle.vp_sets.specs.Sets.{has};
 ghost use Rattle.vp_replay.specs.Costs.{IsCost, cost_of};
@@ -9,7 +11,7 @@ ghost use Rattle.vp_replay.specs.LawfulGames.{IsLawfulEvent};
 
 use crate::Games;
 use vp_card::{Card, Hand};
-use vp_hold::Game;
+use vp_hold::{Best, Game};
 use vp_loggram::Event;
 
 /// Whether the card of this number is held.
@@ -51,6 +53,20 @@ pub fn cost(games: &Games, event: &Event) -> u64
     cost_at(games.game(event.bet), event)
 }
 
+/// The value of a hold, beside the best one of the same hand: where it is that one it needs no sum.
+fn value_beside(game: &Game, hand: &Hand, best: &Best, mask: u8) -> u64
+    requires cards { in_deck game.now.table.deck hand.now ≡ true }
+    requires mask { mask < 32 }
+    requires best { best.now.value ≡ value game.now.table game.now.coin hand.now best.now.mask }
+    ensures { result ≡ value game.now.table game.now.coin hand.now mask }
+{
+    if best.mask == mask {
+        best.value
+    } else {
+        game.value(hand, mask)
+    }
+}
+
 /// The same, over the sums of its bet alone.
 #[tactic(auto, using(crate::proofs::LawfulCards::lawful_deal, crate::proofs::LawfulCards::deal_of_deck, crate::proofs::LawfulCards::lawful_holds))]
 pub fn cost_at(game: &Game, event: &Event) -> u64
@@ -64,5 +80,6 @@ pub fn cost_at(game: &Game, event: &Event) -> u64
     let _table = game.table();
     let hand = Hand::of(event.deal).unwrap();
     let mask = mask_of(&hand, &event.hold);
-    game.best(&hand).value - game.value(&hand, mask)
+    let best = game.best(&hand);
+    best.value - value_beside(game, &hand, &best, mask)
 }

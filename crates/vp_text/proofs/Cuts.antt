@@ -1,12 +1,12 @@
 -- Where a list is cut: lines at line feeds, words at blanks.
-use Rattle.std.proofs.Common.{◌≡◌, ℕ, zero, suc, ◌+◌, ◌<◌, ◌≤◌, Bool, true, false, not, cond, ltb, eqb, List, [], ◌∷◌, length, get_or, take, drop, Some, None, refl, sym, ap, subst, ◌∙◌, arith, position, length-take}
-use Rattle.std.specs.List.{slice_split, onto_first, position_or_len, filter}
-use Rattle.std.proofs.lemmas.Bool.{ltb-false, ne_eqb}
-use Rattle.std.proofs.lemmas.List.{drop_more, get_or-drop}
+use Rattle.std.proofs.Common.{◌≡◌, ℕ, zero, suc, ◌+◌, ◌<◌, ◌≤◌, Bool, true, false, not, cond, ltb, nat_lt, eqb, List, [], ◌∷◌, ◌++◌, length, get_or, take, drop, Some, None, refl, sym, ap, subst, ◌∙◌, arith, position, length-take}
+use Rattle.std.specs.List.{AllByRecursion, slice_split, onto_first, position_or_len, filter}
+use Rattle.std.proofs.lemmas.Bool.{lt-ltb, ltb-false, ne_eqb}
+use Rattle.std.proofs.lemmas.List.{append-nil, drop_more, get_or-drop}
 use Rattle.std.proofs.lemmas.List.Quantifiers.{position-Some}
 use Rattle.std.proofs.lemmas.List.Sums.{position_or_len_is, fails_before_first}
-use Rattle.std.proofs.lemmas.List.Elements.{All-from_get_or}
-use Rattle.std.proofs.lemmas.List.Splits.{slice_split_first, slice_split_none, slice_split-cons_yes}
+use Rattle.std.proofs.lemmas.List.Elements.{All-from_get_or, All-from_recursion}
+use Rattle.std.proofs.lemmas.List.Splits.{slice_split_at, slice_split_first, slice_split_none, slice_split-cons_yes}
 use Rattle.vp_text.specs.Lines.{is_blank, is_empty, words_in, lines_in, lines_between}
 
 pub position_found : (p : ℕ → Bool) (xs : List ℕ) (i : ℕ) → position p xs ≡ Some i → position_or_len p xs ≡ i
@@ -98,6 +98,33 @@ word_found text i starts e =
     let pos : 0 < i = positive is_blank text i starts s.1 in
     let tail : words_in (drop i text) ≡ words_in (drop (i + 1) text) = ap words_in (drop_more text i 0 lt) ∙ blank_dropped (get_or text i 0) (drop (i + 1) text) s.1 in
     ap (filter (λ word. not (is_empty word))) (split_found is_blank text i e) ∙ word_first (take i text) (slice_split is_blank (drop (i + 1) text)) (omega (arith, length-take i text)) ∙ ap (λ (ws : List (List ℕ)). take i text ∷ ws) (sym tail)
+
+-- a space at the front is in no word
+pub space_dropped : (text : List ℕ) → 0 < length text → get_or text 0 0 ≡ 32 → words_in (drop 1 text) ≡ words_in text
+space_dropped [] some front = absurd (omega arith)
+space_dropped (x ∷ xs) some front = sym (blank_dropped x xs (rw front refl))
+
+-- a word without blanks, and behind it the end or a blank
+pub key_found : (key rest : List ℕ) → 0 < length key → AllByRecursion (λ byte. is_blank byte ≡ false) key → (0 < length rest → is_blank (get_or rest 0 0) ≡ true) → words_in (key ++ rest) ≡ key ∷ words_in rest
+key_found key [] some none ends =
+    let all = All-from_recursion (λ byte. is_blank byte ≡ false) key none in
+    ap words_in (append-nil key) ∙ ap (filter (λ word. not (is_empty word))) (slice_split_none is_blank key all) ∙ word_first key [] some
+key_found key (blank ∷ rest) some none ends =
+    let all = All-from_recursion (λ byte. is_blank byte ≡ false) key none in
+    let behind = ends (omega arith) in
+    ap (filter (λ word. not (is_empty word))) (slice_split_at is_blank key blank rest all behind) ∙ word_first key (slice_split is_blank rest) some ∙ ap (λ (ws : List (List ℕ)). key ∷ ws) (sym (blank_dropped blank rest behind))
+
+-- a word of two bytes between blanks
+pub two_found : (text : List ℕ) → 4 ≤ length text → is_blank (get_or text 0 0) ≡ true → is_blank (get_or text 1 0) ≡ false → is_blank (get_or text 2 0) ≡ false → is_blank (get_or text 3 0) ≡ true
+    → words_in text ≡ take 2 (drop 1 text) ∷ words_in (drop 2 (drop 1 text))
+two_found (s ∷ a ∷ b ∷ t ∷ rest) long front first second behind =
+    let inside : nat_lt 2 (length (a ∷ b ∷ t ∷ rest)) ≡ true = lt-ltb 2 (length (a ∷ b ∷ t ∷ rest)) (omega arith) in
+    let at : position is_blank (a ∷ b ∷ t ∷ rest) ≡ Some 2 = rw (first, second, behind, inside) refl in
+    blank_dropped s (a ∷ b ∷ t ∷ rest) front ∙ word_found (a ∷ b ∷ t ∷ rest) 2 first at
+two_found [] long front first second behind = absurd (omega arith)
+two_found (s ∷ []) long front first second behind = absurd (omega arith)
+two_found (s ∷ a ∷ []) long front first second behind = absurd (omega arith)
+two_found (s ∷ a ∷ b ∷ []) long front first second behind = absurd (omega arith)
 
 pub word_missing : (text : List ℕ) → 0 < length text → position is_blank text ≡ None → words_in text ≡ text ∷ []
 word_missing text some e = ap (filter (λ word. not (is_empty word))) (split_missing is_blank text e) ∙ word_first text [] some

@@ -1,6 +1,9 @@
 -- Numbers are read digit by digit.
 use Rattle.std.proofs.Common.{◌≡◌, ℕ, zero, suc, ◌+◌, ◌*◌, ◌^◌, ◌<◌, ◌≤◌, List, [], ◌∷◌, ◌++◌, map, length, get_or, take, drop, refl, ap, sym, subst, ◌∙◌, ◌⊎◌, inl, inr, arith, Some, None}
-use Rattle.std.specs.Prelude.{Option, IfSome, IfNone}
+use Rattle.std.specs.Prelude.{Option, IfSome, IfNone, false, true}
+use Rattle.std.specs.List.{AllByRecursion}
+use Rattle.std.proofs.Common.{length-take}
+use Rattle.std.proofs.lemmas.Bool.Decides.{nat_tests}
 use Rattle.std.specs.Char.{digit_value}
 use Rattle.std.specs.Fmt.{decimal}
 use Rattle.std.specs.Int.Digits.{number_from_digits}
@@ -9,7 +12,9 @@ use Rattle.std.proofs.lemmas.Fmt.{decimal-digits_value, digits_decimal, digits_v
 use Rattle.std.proofs.lemmas.Int.Digits.{digits_value_is, digits_value_more, number_after_append, number_after_ge}
 use Rattle.std.proofs.lemmas.List.{map-append, take-append-drop}
 use Rattle.std.proofs.lemmas.Str.Parse.{IsNumeralModel}
-use Rattle.vp_text.specs.Lines.{Word}
+use Rattle.vp_text.specs.Lines.{Word, is_blank, words_in}
+use Rattle.vp_text.specs.Pieces.{one_word}
+use Rattle.vp_text.proofs.Cuts.{key_found}
 use Rattle.vp_text.specs.Numbers.{number_of}
 use Rattle.vp_text.proofs.Numbers.{number_some, number_none}
 
@@ -81,3 +86,28 @@ padded_not (suc n) below padded = let first = first_decimal (suc n) (omega arith
 pub number_unread : (text : Word) → (length text ≡ 0) ⊎ IsPadded text → number_of text ≡ None
 number_unread text (inl none) = number_none text (λ n below is. let some = decimal_nonempty n below in let same = ap length is in omega arith)
 number_unread text (inr padded) = number_none text (λ n below is. padded_not n below (subst IsPadded is padded))
+
+-- ---- a number at the front of a text
+
+digit_plain : (byte : ℕ) → digit_value byte < 10 → is_blank byte ≡ false
+digit_plain byte digit = grind (arith, nat_tests, digit)
+
+digits_plain : (digits : Word) → AllDigits 10 digits → AllByRecursion (λ byte. is_blank byte ≡ false) digits
+digits_plain [] all = tt
+digits_plain (byte ∷ digits) all = (digit_plain byte all.0, digits_plain digits all.1)
+
+-- digits at the front, none in front of them being a zero, and behind them a blank or the end
+pub number_in_front : (text : Word) (place value : ℕ) → 0 < place → place ≤ length text → (get_or text 0 0 ≡ 48 → ⊥) → value < 2 ^ 64 → AllDigits 10 (take place text) → value ≡ digits_value 10 (take place text)
+    → (0 < length (drop place text) → is_blank (get_or (drop place text) 0 0) ≡ true) → one_word number_of (words_in text) ≡ Some (value, words_in (drop place text))
+number_in_front text place value some inside plain below all is ends =
+    let word = take place text in
+    let long : 0 < length word = omega (arith, length-take place text) in
+    let first : get_or word 0 0 ≡ get_or text 0 0 = front_byte place text some in
+    let read : Some value ≡ number_of word = number_read word (Some value) long (λ padded. plain (sym first ∙ padded.1)) (below, all, is) tt in
+    let cut : words_in text ≡ word ∷ words_in (drop place text) = ap words_in (sym (take-append-drop place text)) ∙ key_found word (drop place text) long (digits_plain word all) ends in
+    rw (cut, ← read) refl
+  where
+    front_byte : (n : ℕ) (bytes : Word) → 0 < n → get_or (take n bytes) 0 0 ≡ get_or bytes 0 0
+    front_byte zero bytes none = absurd (omega arith)
+    front_byte (suc n) [] more = refl
+    front_byte (suc n) (byte ∷ bytes) more = refl

@@ -47,7 +47,7 @@ plain_clean : (word : List ℕ) → AllByRecursion (λ byte. IsTrue (is_plain by
 plain_clean [] h = tt
 plain_clean (b ∷ word) h = let p = plain_is b h.0 in (record { feed = p.feed; return = p.return; comment = p.comment }, plain_clean word h.1)
 
-no_blanks : (word : List ℕ) → AllByRecursion (λ byte. IsTrue (is_plain byte)) word → AllByRecursion (λ byte. is_blank byte ≡ false) word
+pub no_blanks : (word : List ℕ) → AllByRecursion (λ byte. IsTrue (is_plain byte)) word → AllByRecursion (λ byte. is_blank byte ≡ false) word
 no_blanks [] h = tt
 no_blanks (b ∷ word) h = ((plain_is b h.0).blank, no_blanks word h.1)
 

@@ -1,13 +1,14 @@
 //! Where a text is cut into lines, and a line into words.
 
-ghost use Rattle.std.specs.Prelude.{◌≡◌, ◌<◌, ◌==◌, false, not, ◌∷◌, length, slice_index, position};
+ghost use Rattle.std.specs.Prelude.{◌≡◌, ◌<◌, ◌==◌, false, not, ◌∷◌, length, slice_index, position, IfSome};
 ghost use Rattle.std.specs.List.{before_first};
 ghost use Rattle.std.specs.Str.Lines.{strip_carriage_return};
 ghost use Rattle.vp_text.specs.Lines.{is_blank, after_feed, lines_in, words_in, said};
+ghost use Rattle.vp_text.specs.Written.{IsPlainWord};
 
 use memchr::memchr;
 
-fn blank(byte: u8) -> bool
+pub(crate) fn blank(byte: u8) -> bool
     ensures { result ≡ is_blank byte }
 {
     byte == b' ' || byte == b'\t'
@@ -86,6 +87,44 @@ pub(crate) fn from_word(text: &[u8]) -> &[u8]
     match word_in(text) {
         Some(start) => text.split_at(start).1,
         None => text.split_at(text.len()).1,
+    }
+}
+
+/// The first word, of two bytes with a space on either side, as most cards stand in a line, and what is behind it. Where
+/// `None` is answered the first word may still be one.
+pub(crate) fn cut_two(text: &[u8]) -> Option<(&[u8], &[u8])>
+    ensures { IfSome result (λ cut. words_in text.now ≡ cut.0.now ∷ words_in cut.1.now) }
+{
+    if text.len() < 4 || text[0] != b' ' || text[3] != b' ' || blank(text[1]) || blank(text[2]) {
+        return None;
+    }
+    let (_, text) = text.split_at(1);
+    Some(text.split_at(2))
+}
+
+/// The text behind a space at its front, where there is one.
+#[tactic(auto, using(crate::proofs::Cuts::space_dropped))]
+pub(crate) fn behind_space(text: &[u8]) -> &[u8]
+    ensures { words_in result.now ≡ words_in text.now }
+{
+    if !text.is_empty() && text[0] == b' ' {
+        text.split_at(1).1
+    } else {
+        text
+    }
+}
+
+/// What is behind this word, where it is the first, with at most one space before it. Where `None` is answered the first
+/// word may still be this one.
+pub(crate) fn cut_key<'a>(text: &'a [u8], key: &[u8]) -> Option<&'a [u8]>
+    requires { IsPlainWord key.now }
+    ensures { IfSome result (λ rest. words_in text.now ≡ key.now ∷ words_in rest.now) }
+{
+    let rest = behind_space(text).strip_prefix(key)?;
+    if rest.is_empty() || blank(rest[0]) {
+        Some(rest)
+    } else {
+        None
     }
 }
 

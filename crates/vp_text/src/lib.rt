@@ -17,7 +17,7 @@ pub use laws::{
     whole_exact, words_spaced, written_again, written_read, written_stands,
 };
 pub use lines::{Lines, Words};
-pub use next_words::{key_word, keyed_number, next_number, next_number_within};
+pub use next_words::{key_word, keyed_number, next_number, next_number_within, plain_key_word};
 pub use numerals::number;
 pub use out::Out;
 pub use refused::Refused;

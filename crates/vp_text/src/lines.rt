@@ -1,12 +1,15 @@
 //! The lines of a text that have words, and the words of a line.
 
-ghost use Rattle.std.specs.Prelude.{◌≡◌, ◌+◌, ◌<◌, ◌≤◌, true, false, [], ◌∷◌, length, MatchOption, IfOk, IfErr};
+ghost use Rattle.std.specs.Prelude.{◌≡◌, ◌+◌, ◌<◌, ◌≤◌, true, false, [], ◌∷◌, length, Some, MatchOption, IfOk, IfErr};
 ghost use Rattle.vp_text.specs.Lines.{lines_in, words_in, feed_of, at_end, rest_of};
-ghost use Rattle.vp_text.specs.Pieces.{none_left};
+ghost use Rattle.vp_text.specs.Numbers.{number_of};
+ghost use Rattle.vp_text.specs.Pieces.{none_left, one_word};
 ghost use Rattle.vp_text.specs.Reading.{next_is, only_is};
+ghost use Rattle.vp_text.specs.Written.{IsPlainWord};
 
 use crate::Refused;
-use crate::cutting::{cut_line, cut_word, from_word, what_is_said};
+use crate::cutting::{cut_key, cut_line, cut_two, cut_word, from_word, what_is_said};
+use crate::numerals::cut_number;
 use std::marker::Model;
 
 /// The words of one line that are left, from left to right.
@@ -62,6 +65,10 @@ impl<'a> Words<'a> {
         // Exactly where no word is left there is none, and nothing changes.
         ensures next { MatchOption result ((self.old.words ≡ []) × (self.new ≡ self.old)) (λ word. self.old.words ≡ word.now ∷ self.new.words) }
     {
+        if let Some((word, rest)) = cut_two(self.rest) {
+            self.rest = rest;
+            return Some(word);
+        }
         let text = from_word(self.rest);
         if text.is_empty() {
             return None;
@@ -69,6 +76,33 @@ impl<'a> Words<'a> {
         let (word, rest) = cut_word(text);
         self.rest = rest;
         Some(word)
+    }
+
+    /// Passes the next word where it is seen at once to be this one, and tells whether it was; else nothing changes.
+    pub(crate) fn pass(&mut self, word: &[u8]) -> bool
+        requires { IsPlainWord word.now }
+        ensures line { self.new.line ≡ self.old.line }
+        ensures passed { result ≡ true → self.old.words ≡ word.now ∷ self.new.words }
+        ensures kept { result ≡ false → self.new ≡ self.old }
+    {
+        match cut_key(self.rest, word) {
+            Some(rest) => {
+                self.rest = rest;
+                true
+            }
+            None => false,
+        }
+    }
+
+    /// Takes the next word where it is seen at once to be a number; else nothing changes.
+    pub(crate) fn pass_number(&mut self) -> Option<u64>
+        ensures line { self.new.line ≡ self.old.line }
+        ensures number { MatchOption result (self.new ≡ self.old)
+            (λ n. one_word number_of self.old.words ≡ Some (n, self.new.words)) }
+    {
+        let (value, rest) = cut_number(self.rest)?;
+        self.rest = rest;
+        Some(value)
     }
 
     /// A reader of the same words, to look ahead with.

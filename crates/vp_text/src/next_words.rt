@@ -5,6 +5,7 @@ ghost use Rattle.std.specs.Prelude.{◌≡◌, ◌≤◌, IfSome};
 ghost use Rattle.vp_text.specs.Numbers.{number_of, number_within};
 ghost use Rattle.vp_text.specs.Pieces.{Takes, key_word, one_word};
 ghost use Rattle.vp_text.specs.Sequences.{keyed};
+ghost use Rattle.vp_text.specs.Written.{IsPlainWord};
 
 use crate::{Words, number};
 
@@ -17,11 +18,26 @@ pub fn key_word(words: &mut Words, key: &[u8]) -> Option<()>
     if word == key { Some(()) } else { None }
 }
 
+/// Takes the next word, which is to be this one. A plain word is seen at less cost.
+pub fn plain_key_word(words: &mut Words, key: &[u8]) -> Option<()>
+    requires { IsPlainWord key.now }
+    ensures line { words.new.line ≡ words.old.line }
+    ensures takes { Takes (λ u. tt) result words.new.words (key_word key.now words.old.words) }
+{
+    if words.pass(key) {
+        return Some(());
+    }
+    key_word(words, key)
+}
+
 /// Takes the next word, which is to be a number in its decimal digits.
 pub fn next_number(words: &mut Words) -> Option<u64>
     ensures line { words.new.line ≡ words.old.line }
     ensures takes { Takes (λ n. n) result words.new.words (one_word number_of words.old.words) }
 {
+    if let Some(value) = words.pass_number() {
+        return Some(value);
+    }
     let word = words.next()?;
     number(word)
 }
