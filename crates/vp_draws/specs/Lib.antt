@@ -1,3 +1,4 @@
 pub mod Choices
 pub mod Draws
 pub mod Laws
+pub mod ByLine
