@@ -8,3 +8,4 @@ pub mod TurnedValues
 pub mod Printed
 pub mod Summed
 pub mod LineDraws
+pub mod Masks

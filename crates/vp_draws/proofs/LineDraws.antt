@@ -51,7 +51,8 @@ no_cards (c ∷ deal) = omega (arith, mask_of-cons [] c deal, no_cards deal, non
 
 -- ---- counts
 
-nought_at : (n k : ℕ) → ◌≡◌ {A = ℕ} (get_or (replicate n 0) k 0) 0
+-- a row of zeros
+pub nought_at : (n k : ℕ) → ◌≡◌ {A = ℕ} (get_or (replicate n 0) k 0) 0
 nought_at n k = elim (cases_lt k n) [
   | inl l ↦ get_or-replicate n k 0 0 l
   | inr l ↦ get_or_past (replicate n 0) k 0 (let e : length (replicate {A = ℕ} n 0) ≡ n = length-replicate {A = ℕ} n 0 in omega arith)

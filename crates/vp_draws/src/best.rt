@@ -1,10 +1,12 @@
 //! The values of the 32 holds of a hand, and the best of them.
 
-ghost use Rattle.std.specs.Prelude.{ℕ, ◌≡◌, ◌+◌, ◌*◌, ◌<◌, ◌≤◌, true, length, sum_by};
+ghost use Rattle.std.specs.Prelude.{ℕ, ◌≡◌, ◌+◌, ◌*◌, ◌<◌, ◌≤◌, true, List, length, slice_index, sum_by};
 ghost use Rattle.vp_card.specs.Cards.{IsHand, in_deck};
 ghost use Rattle.vp_pay.specs.Table.{IsTable};
+ghost use Rattle.vp_pay.specs.declared.table.PayTable.{PayTable};
 ghost use Rattle.vp_sets.specs.Draws.{discarded, draws};
 ghost use Rattle.vp_draws.specs.Draws.{IsMean, best, least_best, masks, ties, total, value};
+ghost use Rattle.vp_draws.specs.Many.{AreValues};
 
 use crate::walk::total_of;
 use std::sync::ledger::Ledger;
@@ -101,6 +103,29 @@ pub fn plain_best<L: Ledger>(table: &PayTable, coin: u8, hand: &Hand, steps: &mu
     for mask in 1..32u8 {
         let value = hold_value(&mut payments, table.deck, hand, mask, steps);
         best = better(best, mask, value);
+    }
+    best
+}
+
+/// The best of the 32 holds of a hand, by their values.
+pub fn best_of_values(values: &[u64; 32]) -> Best
+    ensures hold { result.mask < 32 }
+    ensures value { result.value ≡ slice_index values.now result.mask }
+    // No other hold exceeds it.
+    ensures greatest { (mask : ℕ) → mask < 32 → slice_index values.now mask ≤ result.value }
+    // Each smaller mask is worth less.
+    ensures least { (mask : ℕ) → mask < result.mask → slice_index values.now mask < result.value }
+    ensures best { (table : PayTable) (coin : ℕ) (hand : List ℕ) → AreValues table coin hand values.now → result.value ≡ best table coin hand }
+    ensures least_best { (table : PayTable) (coin : ℕ) (hand : List ℕ) → AreValues table coin hand values.now → result.mask ≡ least_best table coin hand }
+    ensures ties { (table : PayTable) (coin : ℕ) (hand : List ℕ) → AreValues table coin hand values.now → result.ties ≡ ties table coin hand }
+{
+    let mut best = Best {
+        mask: 0,
+        value: values[0],
+        ties: 1,
+    };
+    for mask in 1..32 {
+        best = better(best, mask, values[mask as usize]);
     }
     best
 }

@@ -137,7 +137,7 @@ fn count_in(row: &mut [u32; 33], place: u8)
 }
 
 /// Four cards and one more behind them.
-fn with_last(four: &[u8; 4], last: u8) -> [u8; 5]
+pub(crate) fn with_last(four: &[u8; 4], last: u8) -> [u8; 5]
     requires { length four.now ≡ 4 }
     ensures { result ≡ four.now ++ last ∷ [] }
 {
@@ -146,7 +146,7 @@ fn with_last(four: &[u8; 4], last: u8) -> [u8; 5]
 }
 
 /// Four cards as an array.
-fn four(cards: &[u8]) -> [u8; 4]
+pub(crate) fn four(cards: &[u8]) -> [u8; 4]
     requires { length cards.now ≡ 4 }
     ensures { result ≡ cards.now }
 {
@@ -155,7 +155,7 @@ fn four(cards: &[u8]) -> [u8; 4]
 }
 
 /// Cards and one more behind them.
-fn followed(cards: &[u8], card: u8) -> ArrayVec<u8, 4>
+pub(crate) fn followed(cards: &[u8], card: u8) -> ArrayVec<u8, 4>
     requires { length cards.now < 4 }
     ensures { result.items ≡ cards.now ++ card ∷ [] }
 {
@@ -166,7 +166,7 @@ fn followed(cards: &[u8], card: u8) -> ArrayVec<u8, 4>
 }
 
 /// The mask that holds, of a hand, just this card.
-fn mask_of(card: u8, hand: &Hand) -> u8
+pub(crate) fn mask_of(card: u8, hand: &Hand) -> u8
     ensures mask { result ≡ mask_of (card ∷ []) hand.now }
     ensures hand { IsHand hand.now }
 {
