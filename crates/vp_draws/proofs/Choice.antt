@@ -1,5 +1,5 @@
 -- The best of the masks.
-use Rattle.std.proofs.Common.{◌≡◌, inl, inr, ℕ, zero, suc, ◌+◌, ◌<◌, ◌≤◌, max, Bool, true, false, cond, ◌==◌, if◌then◌else◌, Some, List, [], ◌∷◌, ◌++◌, find, unwrap_or, refl, ap, ◌∙◌, arith, zero-add, add-one, below_more, lit<, lit≤}
+use Rattle.std.proofs.Common.{◌≡◌, inl, inr, ℕ, zero, suc, ◌+◌, ◌<◌, ◌≤◌, max, Bool, true, false, cond, ◌==◌, if◌then◌else◌, Some, List, [], ◌∷◌, ◌++◌, find, unwrap_or, refl, ap, ◌∙◌, arith, add-one, below_more, lit<, lit≤}
 use Rattle.std.specs.List.{sum_by, count_by}
 use Rattle.std.proofs.lemmas.Bool.{cases_lt}
 use Rattle.std.proofs.lemmas.Bool.Decides.{nat_tests}
@@ -161,9 +161,9 @@ ties_are f n b h = rw (← greatest_is f n b h) h.ties
 
 -- ---- sums over the masks
 
-pub sum_first : (f : ℕ → ℕ) → sum_by f (deck 1) ≡ f 0
+pub sum_none : (f : ℕ → ℕ) → sum_by f (deck 0) ≡ 0
 unfolding deck
-sum_first f = zero-add (f 0)
+sum_none f = refl
 
 pub sum_more : (f : ℕ → ℕ) (n : ℕ) → sum_by f (deck (n + 1)) ≡ sum_by f (deck n) + f n
 sum_more f n = rw (add-one, deck-suc) (sum_by_push f (deck n) n)
