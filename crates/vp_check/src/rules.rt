@@ -106,7 +106,8 @@ pub(crate) fn listed_breach(before: Option<u32>, index: u32, line: &ClassLine) -
 /// the mask has it.
 pub(crate) fn walked_breach(line: &ClassLine, values: &[u64; 32]) -> Option<Breach>
     requires { line.now.mask < 32 }
-    ensures { (table : PayTable) (coin : ℕ) → AreValues table coin line.now.hand values.now → result ≡ walked_breach table coin line.now }
+    ensures { (table : PayTable) (coin : ℕ) → AreValues table coin line.now.hand values.now → result
+        ≡ walked_breach table coin line.now }
 {
     let best = best_of_values(values);
     let due = u128::from(best.value);

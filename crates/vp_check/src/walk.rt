@@ -51,7 +51,8 @@ pub(crate) fn walk_end(from: u32, count: u32, broken: Option<Broken>) -> u64
 /// The first broken rule of the values and masks of these class lines, by the values of their holds.
 fn first_broken(asked: &[Numbered], values: &[[u64; 32]]) -> Option<Finding>
     requires { All (λ line. line.mask < 32) (classes_of asked.now) }
-    ensures { (table : PayTable) (coin : ℕ) (later : Result ℕ Finding) → HaveValues table coin asked.now values.now
+    ensures { (table : PayTable) (coin : ℕ) (later : Result ℕ Finding)
+        → HaveValues table coin asked.now values.now
         → asked_or table coin asked.now later ≡ finding_or result later }
 {
     let Some((row, rows)) = asked.split_first() else {
@@ -67,20 +68,21 @@ fn first_broken(asked: &[Numbered], values: &[[u64; 32]]) -> Option<Finding>
 }
 
 /// The cards of class lines, in front of others.
-fn hands_of(asked: &[Numbered]) -> [Hand; 128]
+fn hands_of(asked: &[Numbered]) -> [Hand; 256]
     requires some { 0 < length asked.now }
-    requires few { length asked.now ≤ 128 }
-    ensures room { length result ≡ 128 }
-    ensures hands { (k : ℕ) → k < length asked.now → deal_at result k ≡ deal_at (map (λ row. row.class.hand) asked.now) k }
+    requires few { length asked.now ≤ 256 }
+    ensures room { length result ≡ 256 }
+    ensures hands { (k : ℕ) → k < length asked.now → deal_at result k
+        ≡ deal_at (map (λ row. row.class.hand) asked.now) k }
 {
-    let mut hands = [asked[0].class.hand; 128];
+    let mut hands = [asked[0].class.hand; 256];
     for k in 0..asked.len() {
         hands[k] = asked[k].class.hand;
     }
     hands
 }
 
-/// The first broken rule of the values and masks of up to 128 class lines, by one walk over all hands of the deck.
+/// The first broken rule of the values and masks of up to 256 class lines, by one walk over all hands of the deck.
 fn walked<L: Ledger>(
     table: &PayTable,
     coin: u8,
@@ -89,38 +91,40 @@ fn walked<L: Ledger>(
 ) -> Option<Finding>
     requires bet { IsBet table.now coin }
     requires lines { All (IsClassLine table.now.deck) (classes_of asked.now) }
-    requires few { length asked.now ≤ 128 }
-    ensures { (later : Result ℕ Finding) → asked_or table.now coin asked.now later ≡ finding_or result later }
+    requires few { length asked.now ≤ 256 }
+    ensures { (later : Result ℕ Finding) → asked_or table.now coin asked.now later
+        ≡ finding_or result later }
 {
     if asked.is_empty() {
         return None;
     }
     let many = asked.len();
     let hands = hands_of(asked);
-    let mut values = [[0; 32]; 128];
+    let mut values = [[0; 32]; 256];
     many_values(table, coin, &hands[..many], &mut values[..many], steps);
     first_broken(asked, &values)
 }
 
-/// Asks one more class line, where it is one to ask. As soon as 128 lines are asked, they are walked.
+/// Takes one more class line to those that are to be walked. As soon as they are 256, they are walked.
 fn ask<L: Ledger>(
     table: &PayTable,
     coin: u8,
-    asked: &mut ArrayVec<Numbered, 128>,
+    asked: &mut ArrayVec<Numbered, 256>,
     row: Numbered,
     steps: &mut Steps<L>,
 ) -> Option<Finding>
     requires bet { IsBet table.now coin }
     requires lines { All (IsClassLine table.now.deck) (classes_of asked.old.items) }
     requires line { IsClassLine table.now.deck row.class }
-    requires few { length asked.old.items < 128 }
-    ensures finding { (later : Result ℕ Finding) → finding_or result (asked_or table.now coin asked.new.items later)
+    requires few { length asked.old.items < 256 }
+    ensures finding { (later : Result ℕ Finding)
+        → finding_or result (asked_or table.now coin asked.new.items later)
         ≡ asked_or table.now coin asked.old.items (found_or (walked_breach table.now coin row.class) row.line later) }
     ensures lines { All (IsClassLine table.now.deck) (classes_of asked.new.items) }
-    ensures few { length asked.new.items < 128 }
+    ensures few { length asked.new.items < 256 }
 {
     asked.push(row);
-    if asked.len() < 128 {
+    if asked.len() < 256 {
         return None;
     }
     let finding = walked(table, coin, asked.as_slice(), steps);
@@ -128,23 +132,24 @@ fn ask<L: Ledger>(
     finding
 }
 
-/// The same, where the line is to be asked.
+/// The same for a line that is wanted; another is passed by.
 fn ask_if<L: Ledger>(
     wanted: bool,
     table: &PayTable,
     coin: u8,
-    asked: &mut ArrayVec<Numbered, 128>,
+    asked: &mut ArrayVec<Numbered, 256>,
     row: Numbered,
     steps: &mut Steps<L>,
 ) -> Option<Finding>
     requires bet { IsBet table.now coin }
     requires lines { All (IsClassLine table.now.deck) (classes_of asked.old.items) }
     requires line { IsClassLine table.now.deck row.class }
-    requires few { length asked.old.items < 128 }
-    ensures finding { (later : Result ℕ Finding) → finding_or result (asked_or table.now coin asked.new.items later)
+    requires few { length asked.old.items < 256 }
+    ensures finding { (later : Result ℕ Finding)
+        → finding_or result (asked_or table.now coin asked.new.items later)
         ≡ asked_or table.now coin asked.old.items (found_or (if wanted then walked_breach table.now coin row.class else None) row.line later) }
     ensures lines { All (IsClassLine table.now.deck) (classes_of asked.new.items) }
-    ensures few { length asked.new.items < 128 }
+    ensures few { length asked.new.items < 256 }
 {
     if wanted {
         ask(table, coin, asked, row, steps)
@@ -153,8 +158,8 @@ fn ask_if<L: Ledger>(
     }
 }
 
-/// The answer when the last lines are asked.
-fn told<L: Ledger>(
+/// The answer behind the last class line to walk: the first broken rule of those that are still to be walked, or how many were asked.
+fn walk_last<L: Ledger>(
     table: &PayTable,
     coin: u8,
     asked: &[Numbered],
@@ -163,7 +168,7 @@ fn told<L: Ledger>(
 ) -> Result<u32, Finding>
     requires bet { IsBet table.now coin }
     requires lines { All (IsClassLine table.now.deck) (classes_of asked.now) }
-    requires few { length asked.now ≤ 128 }
+    requires few { length asked.now ≤ 256 }
     ensures { result ≡ asked_or table.now coin asked.now (Ok many) }
 {
     match walked(table, coin, asked, steps) {
@@ -192,7 +197,7 @@ pub(crate) fn walk<L: Ledger>(
     let mut many = 0u32;
     while let Some(row) = rows.next() {
         if place >= end {
-            return told(table, coin, asked.as_slice(), many, steps);
+            return walk_last(table, coin, asked.as_slice(), many, steps);
         }
         let wanted = from <= place;
         if let Some(finding) = ask_if(wanted, table, coin, &mut asked, row, steps) {
@@ -201,5 +206,5 @@ pub(crate) fn walk<L: Ledger>(
         many += u32::from(wanted);
         place += 1;
     }
-    told(table, coin, asked.as_slice(), many, steps)
+    walk_last(table, coin, asked.as_slice(), many, steps)
 }

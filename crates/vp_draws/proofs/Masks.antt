@@ -34,7 +34,7 @@ no_masks cards deals k l = ap (λ deal. mask_of cards deal) (get_or_past deals k
 
 -- the masks of the chosen cards, with those of one more above them
 pub masks_grow : (deals : List (List ℕ)) (chosen : List ℕ) (card : ℕ) (masks more : List ℕ) → IsSet card chosen → AreMasks deals chosen masks → AreMasks deals (card ∷ []) more
-    → (k : ℕ) → k < 128 → get_or masks k 0 + get_or more k 0 ≡ mask_of (chosen ++ card ∷ []) (deal_at deals k)
+    → (k : ℕ) → k < 256 → get_or masks k 0 + get_or more k 0 ≡ mask_of (chosen ++ card ∷ []) (deal_at deals k)
 masks_grow deals chosen card masks more set a b k l =
     omega (arith, a k l, b k l, mask_push chosen card (deal_at deals k) (below_absent card chosen (set_below card chosen set)))
 

@@ -20,7 +20,7 @@ use vp_pay::PayTable;
 use vp_sets::scale;
 use vp_wild::{KeptPayments, Steps};
 
-/// The totals of all 32 holds of up to 128 deals, by one walk over all hands of the deck: row `k` gets the sum of the payments for
+/// The totals of all 32 holds of up to 256 deals, by one walk over all hands of the deck: row `k` gets the sum of the payments for
 /// `coin` coins over all draws of each hold of deal `k`, by its mask. One step of the counter for each hand of the deck.
 pub fn many_totals<L: Ledger>(
     table: &PayTable,
@@ -32,10 +32,12 @@ pub fn many_totals<L: Ledger>(
     requires table { IsTable table.now }
     requires coin_from { 1 ≤ coin }
     requires coin_to { coin ≤ table.now.coins }
-    requires few { length deals.now ≤ 128 }
+    requires few { length deals.now ≤ 256 }
     requires rows { length totals.old ≡ length deals.now }
-    requires cards { (k : ℕ) → k < length deals.now → in_deck table.now.deck (deal_at deals.now k) ≡ true }
-    ensures totals { (k mask : ℕ) → k < length deals.now → mask < 32 → cell totals.new k mask ≡ total table.now coin (deal_at deals.now k) mask }
+    requires cards { (k : ℕ) → k < length deals.now → in_deck table.now.deck (deal_at deals.now k)
+        ≡ true }
+    ensures totals { (k mask : ℕ) → k < length deals.now → mask < 32 → cell totals.new k mask
+        ≡ total table.now coin (deal_at deals.now k) mask }
     ensures hands { (k : ℕ) → k < length deals.now → IsHand (deal_at deals.now k) }
     ensures steps { steps.new ≡ steps.old + choose table.now.deck 5 }
 {
@@ -48,13 +50,13 @@ pub fn many_totals<L: Ledger>(
         &deals,
         &[],
         0,
-        &[0; 128],
+        &[0; 256],
         totals,
         steps,
     );
 }
 
-/// The values of all 32 holds of up to 128 deals: row `k` gets those of deal `k`, by the masks of the holds, each its expected
+/// The values of all 32 holds of up to 256 deals: row `k` gets those of deal `k`, by the masks of the holds, each its expected
 /// payment for `coin` coins times the common denominator of the deck. One step of the counter for each hand of the deck.
 pub fn many_values<L: Ledger>(
     table: &PayTable,
@@ -66,10 +68,12 @@ pub fn many_values<L: Ledger>(
     requires table { IsTable table.now }
     requires coin_from { 1 ≤ coin }
     requires coin_to { coin ≤ table.now.coins }
-    requires few { length deals.now ≤ 128 }
+    requires few { length deals.now ≤ 256 }
     requires rows { length values.old ≡ length deals.now }
-    requires cards { (k : ℕ) → k < length deals.now → in_deck table.now.deck (deal_at deals.now k) ≡ true }
-    ensures values { (k : ℕ) → k < length deals.now → AreValues table.now coin (deal_at deals.now k) (slice_index_or values.new k []) }
+    requires cards { (k : ℕ) → k < length deals.now → in_deck table.now.deck (deal_at deals.now k)
+        ≡ true }
+    ensures values { (k : ℕ) → k < length deals.now
+        → AreValues table.now coin (deal_at deals.now k) (slice_index_or values.new k []) }
     ensures steps { steps.new ≡ steps.old + choose table.now.deck 5 }
 {
     many_totals(table, coin, deals, values, steps);
@@ -81,8 +85,10 @@ pub fn many_values<L: Ledger>(
 /// Makes the totals of the holds of a hand their values.
 fn scale_all(n: u8, hand: &Hand, row: &mut [u64; 32])
     requires deck { IsDeck n }
-    requires room { (mask : ℕ) → mask < 32 → slice_index row.old mask * scale n (length (discarded mask hand.now)) < 2 ^ 64 }
-    ensures { (mask : ℕ) → mask < 32 → slice_index row.new mask ≡ slice_index row.old mask * scale n (length (discarded mask hand.now)) }
+    requires room { (mask : ℕ) → mask < 32
+        → slice_index row.old mask * scale n (length (discarded mask hand.now)) < 2 ^ 64 }
+    ensures { (mask : ℕ) → mask < 32 → slice_index row.new mask
+        ≡ slice_index row.old mask * scale n (length (discarded mask hand.now)) }
 {
     for mask in 0..32u8 {
         row[mask as usize] *= scale(n, cards_drawn(hand, mask));
@@ -106,7 +112,7 @@ fn walk<L: Ledger>(
     deals: &Deals,
     chosen: &[u8],
     low: u8,
-    masks: &[u8; 128],
+    masks: &[u8; 256],
     totals: &mut [[u64; 32]],
     steps: &mut Steps<L>,
 )
@@ -119,9 +125,11 @@ fn walk<L: Ledger>(
     requires rows { length totals.old ≡ length deals.now }
     requires hands { (k : ℕ) → length (deal_at deals.now k) ≤ 5 }
     requires room { (k mask : ℕ) → k < length deals.now → mask < 32
-        → cell totals.old k mask + summed (pay payments.old.table payments.old.coin) n chosen.now low (deal_at deals.now k) mask < 2 ^ 64 }
+        → cell totals.old k mask
+        + summed (pay payments.old.table payments.old.coin) n chosen.now low (deal_at deals.now k) mask < 2 ^ 64 }
     ensures totals { (k mask : ℕ) → k < length deals.now → mask < 32
-        → cell totals.new k mask ≡ cell totals.old k mask + summed (pay payments.old.table payments.old.coin) n chosen.now low (deal_at deals.now k) mask }
+        → cell totals.new k mask ≡ cell totals.old k mask
+        + summed (pay payments.old.table payments.old.coin) n chosen.now low (deal_at deals.now k) mask }
     ensures same { payments.new ≡ payments.old }
     ensures steps { steps.new ≡ steps.old + choose (n - low) (5 - length chosen.now) }
 {
@@ -142,7 +150,7 @@ fn last_card<L: Ledger>(
     deals: &Deals,
     chosen: &[u8; 4],
     low: u8,
-    masks: &[u8; 128],
+    masks: &[u8; 256],
     totals: &mut [[u64; 32]],
     steps: &mut Steps<L>,
 )
@@ -155,9 +163,11 @@ fn last_card<L: Ledger>(
     requires rows { length totals.old ≡ length deals.now }
     requires hands { (k : ℕ) → length (deal_at deals.now k) ≤ 5 }
     requires room { (k mask : ℕ) → k < length deals.now → mask < 32
-        → cell totals.old k mask + summed (pay payments.old.table payments.old.coin) n chosen.now low (deal_at deals.now k) mask < 2 ^ 64 }
+        → cell totals.old k mask
+        + summed (pay payments.old.table payments.old.coin) n chosen.now low (deal_at deals.now k) mask < 2 ^ 64 }
     ensures totals { (k mask : ℕ) → k < length deals.now → mask < 32
-        → cell totals.new k mask ≡ cell totals.old k mask + summed (pay payments.old.table payments.old.coin) n chosen.now low (deal_at deals.now k) mask }
+        → cell totals.new k mask ≡ cell totals.old k mask
+        + summed (pay payments.old.table payments.old.coin) n chosen.now low (deal_at deals.now k) mask }
     ensures same { payments.new ≡ payments.old }
     ensures steps { steps.new ≡ steps.old + (n - low) }
 {
@@ -174,17 +184,20 @@ fn last_card<L: Ledger>(
 fn add_to(row: &mut [u64; 32], mask: u8, payment: u64)
     requires mask { mask < 32 }
     requires room { slice_index row.old mask + payment < 2 ^ 64 }
-    ensures { (m : ℕ) → slice_index row.new m ≡ slice_index row.old m + (if mask == m then payment else 0) }
+    ensures { (m : ℕ) → slice_index row.new m ≡ slice_index row.old m
+        + (if mask == m then payment else 0) }
 {
     row[mask as usize] += payment;
 }
 
 /// Adds a payment to the totals of each deal at its mask, which the two numbers for the deal sum to.
-fn add(totals: &mut [[u64; 32]], masks: &[u8; 128], more: &[u8; 128], payment: u64)
-    requires few { length totals.old ≤ 128 }
-    requires small { (k : ℕ) → k < 128 → slice_index masks.now k + slice_index more.now k < 32 }
-    requires room { (k : ℕ) → k < length totals.old → cell totals.old k (slice_index masks.now k + slice_index more.now k) + payment < 2 ^ 64 }
-    ensures { (k m : ℕ) → k < length totals.old → cell totals.new k m ≡ cell totals.old k m + (if slice_index masks.now k + slice_index more.now k == m then payment else 0) }
+fn add(totals: &mut [[u64; 32]], masks: &[u8; 256], more: &[u8; 256], payment: u64)
+    requires few { length totals.old ≤ 256 }
+    requires small { (k : ℕ) → k < 256 → slice_index masks.now k + slice_index more.now k < 32 }
+    requires room { (k : ℕ) → k < length totals.old
+        → cell totals.old k (slice_index masks.now k + slice_index more.now k) + payment < 2 ^ 64 }
+    ensures { (k m : ℕ) → k < length totals.old → cell totals.new k m ≡ cell totals.old k m
+        + (if slice_index masks.now k + slice_index more.now k == m then payment else 0) }
 {
     for k in 0..totals.len() {
         add_to(&mut totals[k], masks[k] + more[k], payment);
@@ -192,24 +205,25 @@ fn add(totals: &mut [[u64; 32]], masks: &[u8; 128], more: &[u8; 128], payment: u
 }
 
 /// The masks of the chosen cards and one more.
-fn with_card(masks: &[u8; 128], more: &[u8; 128]) -> [u8; 128]
-    requires small { (k : ℕ) → k < 128 → slice_index masks.now k + slice_index more.now k < 32 }
-    ensures { (k : ℕ) → k < 128 → slice_index result k ≡ slice_index masks.now k + slice_index more.now k }
+fn with_card(masks: &[u8; 256], more: &[u8; 256]) -> [u8; 256]
+    requires small { (k : ℕ) → k < 256 → slice_index masks.now k + slice_index more.now k < 32 }
+    ensures { (k : ℕ) → k < 256 → slice_index result k ≡ slice_index masks.now k
+        + slice_index more.now k }
 {
-    let mut both = [0; 128];
-    for k in 0..128 {
+    let mut both = [0; 256];
+    for k in 0..256 {
         both[k] = masks[k] + more[k];
     }
     both
 }
 
 /// The masks of a card in each of the deals.
-fn masks_of(card: u8, hands: &[Hand]) -> [u8; 128]
-    requires few { length hands.now ≤ 128 }
+fn masks_of(card: u8, hands: &[Hand]) -> [u8; 256]
+    requires few { length hands.now ≤ 256 }
     ensures masks { AreMasks hands.now (card ∷ []) result }
     ensures hands { (k : ℕ) → k < length hands.now → IsHand (deal_at hands.now k) }
 {
-    let mut masks = [0; 128];
+    let mut masks = [0; 256];
     for (k, hand) in hands.iter().enumerate() {
         masks[k] = mask_of(card, hand);
     }
@@ -220,7 +234,7 @@ fn masks_of(card: u8, hands: &[Hand]) -> [u8; 128]
 #[derive(Drop)]
 struct Deals<'a> {
     hands: &'a [Hand],
-    masks: [[u8; 128]; 54],
+    masks: [[u8; 256]; 54],
 }
 
 impl<'a> Model for Deals<'a> {
@@ -233,7 +247,7 @@ impl<'a> Model for Deals<'a> {
     ghost view = { λ d. d.hands.now };
 
     ghost invariant = { λ d. record {
-        few : length d.hands.now ≤ 128;
+        few : length d.hands.now ≤ 256;
         hands : (k : ℕ) → k < length d.hands.now → IsHand (deal_at d.hands.now k);
         masks : (c : ℕ) → c < 54 → AreMasks d.hands.now (c ∷ []) (slice_index_or d.masks c []);
     } };
@@ -242,11 +256,11 @@ impl<'a> Model for Deals<'a> {
 impl<'a> Deals<'a> {
     /// The masks of each card.
     fn of(hands: &'a [Hand]) -> Deals<'a>
-        requires { length hands.now ≤ 128 }
+        requires { length hands.now ≤ 256 }
         ensures same { result ≡ hands.now }
         ensures hands { (k : ℕ) → k < length hands.now → IsHand (deal_at hands.now k) }
     {
-        let mut masks = [[0; 128]; 54];
+        let mut masks = [[0; 256]; 54];
         for card in 0..54 {
             masks[card] = masks_of(card as u8, hands);
         }
@@ -254,7 +268,7 @@ impl<'a> Deals<'a> {
     }
 
     /// The masks of the chosen cards and one more, which is above them.
-    fn with_card(&self, chosen: &[u8], masks: &[u8; 128], card: u8) -> [u8; 128]
+    fn with_card(&self, chosen: &[u8], masks: &[u8; 256], card: u8) -> [u8; 256]
         requires few { length chosen.now < 5 }
         requires set { IsSet card chosen.now }
         requires card { card < 54 }
@@ -266,14 +280,17 @@ impl<'a> Deals<'a> {
     }
 
     /// Adds the payment of a hand, four cards and one more above them, to the totals of its mask in each deal.
-    fn add(&self, chosen: &[u8], masks: &[u8; 128], card: u8, payment: u64, totals: &mut [[u64; 32]])
+    fn add(&self, chosen: &[u8], masks: &[u8; 256], card: u8, payment: u64, totals: &mut [[u64; 32]])
         requires few { length chosen.now < 5 }
         requires set { IsSet card chosen.now }
         requires card { card < 54 }
         requires masks { AreMasks self.now chosen.now masks.now }
         requires rows { length totals.old ≡ length self.now }
-        requires room { (k : ℕ) → k < length self.now → cell totals.old k (mask_of (chosen.now ++ card ∷ []) (deal_at self.now k)) + payment < 2 ^ 64 }
-        ensures { (k m : ℕ) → k < length self.now → cell totals.new k m ≡ cell totals.old k m + (if mask_of (chosen.now ++ card ∷ []) (deal_at self.now k) == m then payment else 0) }
+        requires room { (k : ℕ) → k < length self.now
+            → cell totals.old k (mask_of (chosen.now ++ card ∷ []) (deal_at self.now k))
+            + payment < 2 ^ 64 }
+        ensures { (k m : ℕ) → k < length self.now → cell totals.new k m ≡ cell totals.old k m
+            + (if mask_of (chosen.now ++ card ∷ []) (deal_at self.now k) == m then payment else 0) }
     {
         let more = self.masks[card as usize];
         add(totals, masks, &more, payment);

@@ -8,8 +8,8 @@ use Rattle.vp_check.specs.declared.numbered.Numbered.{Numbered}
 use Rattle.vp_check.proofs.Asked.{asked_push, lines_push}
 use Rattle.vp_check.proofs.walk.ask.Goals as goal
 
-pub returns-then-len-lt128-clause-finding : goal.returns-then-len-lt128-clause-finding
-returns-then-len-lt128-clause-finding g c = λ later. ap (λ (rows : List Numbered). asked_or c.args.table.now c.args.coin rows later) c.push.ensures.items ∙ asked_push c.args.table.now c.args.coin c.args.asked.now.items c.args.row later
+pub returns-then-len-lt256-clause-finding : goal.returns-then-len-lt256-clause-finding
+returns-then-len-lt256-clause-finding g c = λ later. ap (λ (rows : List Numbered). asked_or c.args.table.now c.args.coin rows later) c.push.ensures.items ∙ asked_push c.args.table.now c.args.coin c.args.asked.now.items c.args.row later
 
 pub walked-finding-requires-clause-lines : goal.walked-finding-requires-clause-lines
 walked-finding-requires-clause-lines g c =

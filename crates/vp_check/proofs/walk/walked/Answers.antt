@@ -11,9 +11,9 @@ many_values-requires-clause-cards g c = front_of_deck c.args.table.now.deck c.ar
 pub returns : goal.returns
 returns g c = λ later.
     let all : length (take (length c.args.asked.now) c.hands_of-hands.result) ≡ length c.args.asked.now = length-take-le (length c.args.asked.now) c.hands_of-hands.result (omega (arith, c.hands_of-hands.ensures.room, c.requires.few)) in
-    let blank : List (List ℕ) = replicate 128 (replicate {A = ℕ} 32 0) in
+    let blank : List (List ℕ) = replicate 256 (replicate {A = ℕ} 32 0) in
     let long : length c.many_values.new.values ≡ length (take (length c.args.asked.now) blank) = c.many_values.auto.values in
-    let room : length blank ≡ 128 = length-replicate 128 (replicate {A = ℕ} 32 0) in
+    let room : length blank ≡ 256 = length-replicate 256 (replicate {A = ℕ} 32 0) in
     let rows : length (take (length c.args.asked.now) blank) ≡ length c.args.asked.now = length-take-le (length c.args.asked.now) blank (omega (arith, room, c.requires.few)) in
     c.first_broken.ensures c.args.table.now c.args.coin later (have_values c.args.table.now c.args.coin c.args.asked.now c.many_values.new.values _ (long ∙ rows) (λ k l.
     subst (λ (hand : List ℕ). AreValues c.args.table.now c.args.coin hand (get_or c.many_values.new.values k [])) (front_is c.args.asked.now c.hands_of-hands.result c.hands_of-hands.ensures.hands k l) (c.many_values.ensures.values k (omega arith))))

@@ -11,7 +11,7 @@ use Rattle.vp_draws.proofs.Values.{total_fits}
 use Rattle.vp_draws.proofs.many.many_totals.Goals as goal
 
 pub walk-requires-clause-masks : goal.walk-requires-clause-masks
-walk-requires-clause-masks g c = λ k l. nought_at 128 k ∙ sym (no_cards (deal_at c.of-deals.result k))
+walk-requires-clause-masks g c = λ k l. nought_at 256 k ∙ sym (no_cards (deal_at c.of-deals.result k))
 
 pub walk-requires-clause-hands : goal.walk-requires-clause-hands
 walk-requires-clause-hands g c = subst (λ (d : List (List ℕ)). (k : ℕ) → length (deal_at d k) ≤ 5) (sym c.of-deals.ensures.same) (few_cards c.args.deals.now c.of-deals.ensures.hands)

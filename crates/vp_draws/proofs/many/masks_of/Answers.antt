@@ -5,7 +5,7 @@ use Rattle.vp_draws.proofs.Masks.{no_masks}
 use Rattle.vp_draws.proofs.many.masks_of.Goals as goal
 
 pub loop-k-init : goal.loop-k-init
-loop-k-init c = record { room = refl; done = λ k l. absurd (omega arith); left = λ k l. nought_at 128 k; hands = λ k l. absurd (omega arith) }
+loop-k-init c = record { room = refl; done = λ k l. absurd (omega arith); left = λ k l. nought_at 256 k; hands = λ k l. absurd (omega arith) }
 
 pub returns-clause-masks : goal.returns-clause-masks
 returns-clause-masks c = λ k l. elim (cases_lt k c.loop-k.k) [

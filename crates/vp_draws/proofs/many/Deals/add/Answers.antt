@@ -13,11 +13,11 @@ add-requires-clause-small c =
 pub add-requires-clause-room : goal.add-requires-clause-room
 add-requires-clause-room c =
     let more : AreMasks c.args.self.now (c.args.card ∷ []) (get_or c.self.inside.masks c.args.card []) = subst (λ (d : List (List ℕ)). AreMasks d (c.args.card ∷ []) (get_or c.self.inside.masks c.args.card [])) c.self.view_is (c.self.invariant.masks c.args.card c.requires.card) in
-    let few : length c.args.self.now ≤ 128 = subst (λ (d : List (List ℕ)). length d ≤ 128) c.self.view_is c.self.invariant.few in
+    let few : length c.args.self.now ≤ 256 = subst (λ (d : List (List ℕ)). length d ≤ 256) c.self.view_is c.self.invariant.few in
     λ k l. subst (λ (mask : ℕ). cell c.args.totals.now k mask + c.args.payment < 2 ^ 64) (sym (masks_grow c.args.self.now c.args.chosen.now c.args.card c.args.masks.now (get_or c.self.inside.masks c.args.card []) c.requires.set c.requires.masks more k (omega (arith, c.requires.rows)))) (c.requires.room k (omega (arith, c.requires.rows)))
 
 pub returns : goal.returns
 returns c =
     let more : AreMasks c.args.self.now (c.args.card ∷ []) (get_or c.self.inside.masks c.args.card []) = subst (λ (d : List (List ℕ)). AreMasks d (c.args.card ∷ []) (get_or c.self.inside.masks c.args.card [])) c.self.view_is (c.self.invariant.masks c.args.card c.requires.card) in
-    let few : length c.args.self.now ≤ 128 = subst (λ (d : List (List ℕ)). length d ≤ 128) c.self.view_is c.self.invariant.few in
+    let few : length c.args.self.now ≤ 256 = subst (λ (d : List (List ℕ)). length d ≤ 256) c.self.view_is c.self.invariant.few in
     λ k m l. c.add.ensures k m (omega (arith, c.requires.rows)) ∙ ap (λ (mask : ℕ). cell c.args.totals.now k m + cond (eqb mask m) c.args.payment 0) (masks_grow c.args.self.now c.args.chosen.now c.args.card c.args.masks.now (get_or c.self.inside.masks c.args.card []) c.requires.set c.requires.masks more k (omega arith))
