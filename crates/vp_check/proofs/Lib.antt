@@ -8,6 +8,7 @@ pub mod Listed_grammar
 pub mod Read_grammar
 pub mod Lines_grammar
 pub mod Walked
+pub mod Asked
 pub mod Verdicts
 pub mod Answered
 pub mod PlainCertificates

@@ -32,24 +32,21 @@ use Rattle.vp_check.proofs.KeptRules.{break_at}
 
 -- ---- class lines that are read one by one
 
-pub next_of_deck : (n : ℕ) (rows more : List Numbered) (row : Numbered) → rows ≡ row ∷ more → All (IsClassLine n) (classes_of rows) → in_deck n row.class.hand ≡ true
-next_of_deck n rows more row is all =
-    let here : All (IsClassLine n) (classes_of (row ∷ more)) = subst (λ (rs : List Numbered). All (IsClassLine n) (classes_of rs)) is all in
-    (dealt_is n row.class.hand (All-head (IsClassLine n) row.class (classes_of more) here).deal).of_deck
+pub next_line : (n : ℕ) (rows more : List Numbered) (row : Numbered) → rows ≡ row ∷ more → All (IsClassLine n) (classes_of rows) → IsClassLine n row.class
+next_line n rows more row is all =
+    All-head (IsClassLine n) row.class (classes_of more) (subst (λ (rs : List Numbered). All (IsClassLine n) (classes_of rs)) is all)
 
 pub later_lines : (n : ℕ) (rows more : List Numbered) (row : Numbered) → rows ≡ row ∷ more → All (IsClassLine n) (classes_of rows) → All (IsClassLine n) (classes_of more)
 later_lines n rows more row is all =
     All-tail (IsClassLine n) row.class (classes_of more) (subst (λ (rs : List Numbered). All (IsClassLine n) (classes_of rs)) is all)
 
--- a row that breaks no rule was walked over
-pub walk_step : (table : PayTable) (coin from end place walked n : ℕ) (rows more : List Numbered) (row : Numbered) (breach : Option Breach) → rows ≡ row ∷ more → place < end
-    → breach ≡ cond (nat_le from place) (walked_breach table coin row.class) None → breach ≡ None → n ≡ cond (nat_le from place) 1 0
-    → walked_at table coin from end (place + 1) more (walked + n) ≡ walked_at table coin from end place rows walked
-walk_step table coin from end place walked n rows more row breach is before asked none many =
-    ap (λ k. walked_at table coin from end (place + 1) more (walked + k)) many
-    ∙ (ap (λ (o : Option Breach). found_or o row.line (walked_at table coin from end (place + 1) more (walked + cond (nat_le from place) 1 0))) (sym none ∙ asked)
+-- a row that is asked where it is in the range, and what comes later
+pub walk_next : (table : PayTable) (coin from end place walked n : ℕ) (rows more : List Numbered) (row : Numbered) → rows ≡ row ∷ more → place < end → n ≡ cond (nat_le from place) 1 0
+    → found_or (cond (nat_le from place) (walked_breach table coin row.class) None) row.line (walked_at table coin from end (place + 1) more (walked + n)) ≡ walked_at table coin from end place rows walked
+walk_next table coin from end place walked n rows more row is before many =
+    ap (λ k. found_or (cond (nat_le from place) (walked_breach table coin row.class) None) row.line (walked_at table coin from end (place + 1) more (walked + k))) many
     ∙ (ap (λ b. cond b (found_or (cond (nat_le from place) (walked_breach table coin row.class) None) row.line (walked_at table coin from end (place + 1) more (walked + cond (nat_le from place) 1 0))) (Ok walked)) (sym (lt-ltb place end before))
-    ∙ ap (λ (rs : List Numbered). walked_at table coin from end place rs walked) (sym is)))
+    ∙ ap (λ (rs : List Numbered). walked_at table coin from end place rs walked) (sym is))
 
 pub one_asked : (b : Bool) (n walked place : ℕ) → n ≡ cond b 1 0 → walked < place → walked + n < place + 1
 one_asked true n walked place is few = omega arith

@@ -19,7 +19,8 @@ use std::sync::ledger::{Blank, Ledger};
 use vp_wild::Steps;
 
 /// Checks a certificate: every rule of all its lines, but for the value and the mask of a class line, which are asked of
-/// the `count` class lines from the place `from` on. The first class line has the place 1. Their draws are walked one by one.
+/// the `count` class lines from the place `from` on. The first class line has the place 1. Of up to 256
+/// of these lines at once, the payments of the draws are summed over all hands of the deck.
 ///
 /// A text that is no certificate is refused before any rule is asked. Else the answer is the first line that breaks a rule,
 /// with its first broken rule; and where there is none, what the certificate says of itself.

@@ -1,22 +1,19 @@
 //! The rules of a certificate's lines, and what is due where one is broken.
 
-ghost use Rattle.std.specs.Prelude.{◌≡◌, ◌≤◌, ◌<◌, ℕ, List, [], ◌∷◌, true};
-ghost use Rattle.vp_card.specs.Cards.{IsDeck, in_deck};
-ghost use Rattle.vp_pay.specs.Bets.{IsBet};
-ghost use Rattle.vp_draws.specs.Draws.{best, value};
+ghost use Rattle.std.specs.Prelude.{◌≡◌, ◌≤◌, ◌<◌, ℕ, List};
+ghost use Rattle.vp_card.specs.Cards.{IsDeck};
+ghost use Rattle.vp_pay.specs.declared.table.PayTable.{PayTable};
+ghost use Rattle.vp_draws.specs.Many.{AreValues};
 ghost use Rattle.vp_sets.specs.Index.{set_index};
 ghost use Rattle.vp_check.specs.Listing.{counted_breach};
 ghost use Rattle.vp_check.specs.Rules.{broken_if, image_breach, rising_breach, weight_breach, value_breach, mask_breach, listed_breach, walked_breach, cover_breach, sum_breach, denominator_breach};
 
 use crate::reading::Counted;
 use crate::{CertRule, ClassLine};
-use std::sync::ledger::Ledger;
 use vp_card::Hand;
-use vp_draws::{plain_best, return_denominator, value_of};
-use vp_pay::PayTable;
+use vp_draws::{best_of_values, return_denominator};
 use vp_sets::{choose, index_of};
 use vp_suit::{is_representative, least_image, weight};
-use vp_wild::Steps;
 
 /// A broken rule: the number that stands there, and the number due.
 #[derive(Clone, Copy, Debug, PartialEq, Eq)]
@@ -105,28 +102,19 @@ pub(crate) fn listed_breach(before: Option<u32>, index: u32, line: &ClassLine) -
     weight_breach(line)
 }
 
-/// The first broken rule of a class line's value and mask: the value is the greatest of the 32 holds, and the mask has it.
-#[tactic(auto, unfolding(crate::specs::Rules::walked_breach, crate::specs::Rules::value_breach, crate::specs::Rules::mask_breach))]
-pub(crate) fn walked_breach<L: Ledger>(
-    table: &PayTable,
-    coin: u8,
-    line: &ClassLine,
-    steps: &mut Steps<L>,
-) -> Option<Breach>
-    requires bet { IsBet table.now coin }
-    requires cards { in_deck table.now.deck line.now.hand ≡ true }
-    ensures { result ≡ walked_breach table.now coin line.now }
+/// The first broken rule of a class line's value and mask, by the values of its 32 holds: the value is the greatest of them, and
+/// the mask has it.
+pub(crate) fn walked_breach(line: &ClassLine, values: &[u64; 32]) -> Option<Breach>
+    requires { line.now.mask < 32 }
+    ensures { (table : PayTable) (coin : ℕ) → AreValues table coin line.now.hand values.now → result
+        ≡ walked_breach table coin line.now }
 {
-    let best = plain_best(table, coin, &line.hand, steps);
+    let best = best_of_values(values);
     let due = u128::from(best.value);
     if line.value != best.value {
         return broken_if(true, CertRule::Value, u128::from(line.value), due);
     }
-    let worth = if line.mask == best.mask {
-        best.value
-    } else {
-        value_of(table, coin, &line.hand, line.mask, steps)
-    };
+    let worth = values[line.mask as usize];
     broken_if(worth < best.value, CertRule::Mask, u128::from(worth), due)
 }
 

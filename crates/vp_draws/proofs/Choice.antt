@@ -1,5 +1,5 @@
 -- The best of the masks.
-use Rattle.std.proofs.Common.{◌≡◌, inl, inr, ℕ, zero, suc, ◌+◌, ◌<◌, ◌≤◌, max, Bool, true, false, cond, ◌==◌, if◌then◌else◌, Some, List, [], ◌∷◌, ◌++◌, find, unwrap_or, refl, ◌∙◌, arith, zero-add, add-one, below_more, lit<, lit≤}
+use Rattle.std.proofs.Common.{◌≡◌, inl, inr, ℕ, zero, suc, ◌+◌, ◌<◌, ◌≤◌, max, Bool, true, false, cond, ◌==◌, if◌then◌else◌, Some, List, [], ◌∷◌, ◌++◌, find, unwrap_or, refl, ap, ◌∙◌, arith, add-one, below_more, lit<, lit≤}
 use Rattle.std.specs.List.{sum_by, count_by}
 use Rattle.std.proofs.lemmas.Bool.{cases_lt}
 use Rattle.std.proofs.lemmas.Bool.Decides.{nat_tests}
@@ -161,12 +161,33 @@ ties_are f n b h = rw (← greatest_is f n b h) h.ties
 
 -- ---- sums over the masks
 
-pub sum_first : (f : ℕ → ℕ) → sum_by f (deck 1) ≡ f 0
+pub sum_none : (f : ℕ → ℕ) → sum_by f (deck 0) ≡ 0
 unfolding deck
-sum_first f = zero-add (f 0)
+sum_none f = refl
 
 pub sum_more : (f : ℕ → ℕ) (n : ℕ) → sum_by f (deck (n + 1)) ≡ sum_by f (deck n) + f n
 sum_more f n = rw (add-one, deck-suc) (sum_by_push f (deck n) n)
+
+-- ---- functions that give the same values
+
+counts_agree : (f g : ℕ → ℕ) (v n : ℕ) → ((mask : ℕ) → mask < n → f mask ≡ g mask) → count_by (λ mask. f mask == v) (deck n) ≡ count_by (λ mask. g mask == v) (deck n)
+unfolding deck
+counts_agree f g v zero h = refl
+counts_agree f g v (suc n) h =
+    let a : count_by (λ mask. f mask == v) (deck (suc n)) ≡ count_by (λ mask. f mask == v) (deck n) + (if f n == v then 1 else 0) = rw add-one at (count_push f v n) in
+    let b : count_by (λ mask. g mask == v) (deck (suc n)) ≡ count_by (λ mask. g mask == v) (deck n) + (if g n == v then 1 else 0) = rw add-one at (count_push g v n) in
+    let e : (if f n == v then 1 else 0) ≡ (if g n == v then 1 else 0) = ap (λ (m : ℕ). cond {A = ℕ} (m == v) 1 0) (h n (omega arith)) in
+    omega (arith, a, b, e, counts_agree f g v n (λ mask l. h mask (omega arith)))
+
+pub best_agree : (f g : ℕ → ℕ) (n : ℕ) (b : Best) → ((mask : ℕ) → mask < n → f mask ≡ g mask) → IsBestBelow f n b → IsBestBelow g n b
+best_agree f g n b same h = record {
+  hold = h.hold;
+  value = h.value ∙ same b.mask h.hold;
+  greatest = λ mask l. omega (arith, h.greatest mask l, same mask l);
+  least = λ mask l. omega (arith, h.least mask l, same mask (omega (arith, h.hold)));
+  ties = h.ties ∙ counts_agree f g b.value n same;
+  few = h.few;
+}
 
 -- ---- the values of a table, where all 32 masks were compared
 

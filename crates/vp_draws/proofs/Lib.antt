@@ -6,3 +6,6 @@ pub mod Chosen
 pub mod Bounds
 pub mod TurnedValues
 pub mod Printed
+pub mod Summed
+pub mod LineDraws
+pub mod Masks

@@ -7,6 +7,7 @@ use Rattle.vp_pay.specs.Table.{IsTable}
 use Rattle.vp_wild.specs.Payment.{pay}
 use Rattle.vp_sets.specs.Sets.{choose}
 use Rattle.vp_sets.specs.Draws.{discarded, common, scale}
+use Rattle.vp_sets.proofs.Binomials.{choose_small}
 use Rattle.vp_sets.proofs.Denominators.{common_small, scale_exact}
 use Rattle.vp_sets.proofs.Holds.{Dealt, length-held, length-draws, sum_over_draws_le}
 use Rattle.vp_draws.specs.Draws.{IsMean, total, total2, value, value2}
@@ -16,6 +17,11 @@ pub total_le : (table : PayTable) (coin : ℕ) (hand : List ℕ) (mask : ℕ) �
     → total table coin hand mask ≤ 500000 * choose (table.deck - 5) (length (discarded mask hand))
 unfolding total
 total_le table coin hand mask t d = sum_over_draws_le (pay table coin) 500000 table.deck hand mask d (λ h. pay_le table coin h t)
+
+pub total_fits : (table : PayTable) (coin : ℕ) (hand : List ℕ) (mask : ℕ) → IsTable table → Dealt table.deck hand → total table coin hand mask < 2 ^ 64
+total_fits table coin hand mask t d =
+    let few : length (discarded mask hand) ≤ 5 = omega (arith, length-held mask hand, d.five) in
+    omega (arith, total_le table coin hand mask t d, choose_small (table.deck - 5) (length (discarded mask hand)) (omega (arith, t.known_deck.1)) few)
 
 -- a bound on a sum bounds what it is scaled to
 pub scaled_le : (x m c s l : ℕ) → x ≤ m * c → s * c ≡ l → x * s ≤ m * l

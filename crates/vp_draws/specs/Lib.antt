@@ -1,3 +1,5 @@
 pub mod Choices
 pub mod Draws
 pub mod Laws
+pub mod ByLine
+pub mod Many

@@ -1,10 +1,12 @@
 //! The values of the 32 holds of a hand, and the best of them.
 
-ghost use Rattle.std.specs.Prelude.{ℕ, ◌≡◌, ◌+◌, ◌*◌, ◌<◌, ◌≤◌, true, length, sum_by};
+ghost use Rattle.std.specs.Prelude.{ℕ, ◌≡◌, ◌+◌, ◌*◌, ◌<◌, ◌≤◌, true, List, length, slice_index, sum_by};
 ghost use Rattle.vp_card.specs.Cards.{IsHand, in_deck};
 ghost use Rattle.vp_pay.specs.Table.{IsTable};
+ghost use Rattle.vp_pay.specs.declared.table.PayTable.{PayTable};
 ghost use Rattle.vp_sets.specs.Draws.{discarded, draws};
 ghost use Rattle.vp_draws.specs.Draws.{IsMean, best, least_best, masks, ties, total, value};
+ghost use Rattle.vp_draws.specs.Many.{AreValues};
 
 use crate::walk::total_of;
 use std::sync::ledger::Ledger;
@@ -93,21 +95,42 @@ pub fn plain_best<L: Ledger>(table: &PayTable, coin: u8, hand: &Hand, steps: &mu
     ensures steps { steps.new ≡ steps.old + sum_by (λ mask. length (draws table.now.deck hand.now mask)) masks }
 {
     let mut payments = KeptPayments::new(table, coin);
+    let mut values = [0; 32];
+    for mask in 0..32u8 {
+        values[mask as usize] = hold_value(&mut payments, table.deck, hand, mask, steps);
+    }
+    best_of_values(&values)
+}
+
+/// The best of the 32 holds of a hand, by their values; the place of each is its mask.
+pub fn best_of_values(values: &[u64; 32]) -> Best
+    ensures hold { result.mask < 32 }
+    ensures value { result.value ≡ slice_index values.now result.mask }
+    // No other hold exceeds it.
+    ensures greatest { (mask : ℕ) → mask < 32 → slice_index values.now mask ≤ result.value }
+    // Each smaller mask is worth less.
+    ensures least { (mask : ℕ) → mask < result.mask → slice_index values.now mask < result.value }
+    ensures best { (table : PayTable) (coin : ℕ) (hand : List ℕ) → AreValues table coin hand values.now
+        → result.value ≡ best table coin hand }
+    ensures least_best { (table : PayTable) (coin : ℕ) (hand : List ℕ) → AreValues table coin hand values.now
+        → result.mask ≡ least_best table coin hand }
+    ensures ties { (table : PayTable) (coin : ℕ) (hand : List ℕ) → AreValues table coin hand values.now
+        → result.ties ≡ ties table coin hand }
+{
     let mut best = Best {
         mask: 0,
-        value: hold_value(&mut payments, table.deck, hand, 0, steps),
+        value: values[0],
         ties: 1,
     };
     for mask in 1..32u8 {
-        let value = hold_value(&mut payments, table.deck, hand, mask, steps);
-        best = better(best, mask, value);
+        best = better(best, mask, values[mask as usize]);
     }
     best
 }
 
 /// The better of the best hold so far and a hold of a greater mask. Where they are worth the same, the hold so far stays, with
 /// one more tie.
-pub fn better(best: Best, mask: u8, value: u64) -> Best
+fn better(best: Best, mask: u8, value: u64) -> Best
     requires { best.ties < 255 }
     ensures greater { best.value < value → result ≡ record { mask = mask; value = value; ties = 1 } }
     ensures equal { best.value ≡ value → result ≡ record best { ties = best.ties + 1 } }

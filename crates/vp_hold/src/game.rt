@@ -13,7 +13,7 @@ use crate::payments::payment_means;
 use std::marker::{Brand, Model};
 use std::sync::ledger::{Blank, Ledger};
 use vp_card::Hand;
-use vp_draws::Best;
+use vp_draws::{Best, best_of_values};
 use vp_pay::PayTable;
 use vp_wild::Steps;
 
@@ -116,32 +116,7 @@ impl<'a> Game<'a> {
         ensures best { result.value ≡ best self.now.table self.now.coin hand.now }
         ensures least_best { result.mask ≡ least_best self.now.table self.now.coin hand.now }
     {
-        let values = self.values(hand);
-        let mut best = Best {
-            mask: 0,
-            value: values[0],
-            ties: 1,
-        };
-        for mask in 1..32u8 {
-            improve(&mut best, mask, values[mask as usize]);
-        }
-        best
-    }
-}
-
-/// The best of the holds so far and one more, which has a higher mask.
-fn improve(best: &mut Best, mask: u8, value: u64)
-    requires { best.old.ties < 255 }
-    ensures greater { best.old.value < value → best.new ≡ record { mask = mask; value = value; ties = 1 } }
-    ensures equal { best.old.value ≡ value → best.new ≡ record best.old { ties = best.old.ties + 1 } }
-    ensures less { value < best.old.value → best.new ≡ best.old }
-{
-    if best.value < value {
-        best.mask = mask;
-        best.value = value;
-        best.ties = 1;
-    } else if best.value == value {
-        best.ties += 1;
+        best_of_values(&self.values(hand))
     }
 }
 

@@ -12,3 +12,4 @@ pub mod Pascal
 pub mod FiveCards
 pub mod Sums
 pub mod Masks
+pub mod ByMask

@@ -23,6 +23,10 @@ draws n hand mask = combos (length (discarded mask hand)) (without (deck n) hand
 unfoldable pub sum_over_draws : (List ℕ → ℕ) → ℕ → List ℕ → ℕ → ℕ
 sum_over_draws f n hand mask = sum_by (λ drawn. f (joined (held mask hand) drawn)) (draws n hand mask)
 
+-- f of the hands that have, of these cards, those that the mask holds and no other; 0 for the others
+unfoldable pub at_mask : (List ℕ → ℕ) → List ℕ → ℕ → List ℕ → ℕ
+at_mask f cards mask hand = if mask_of hand cards == mask then f hand else 0
+
 -- how many draws there are of k cards, for each k from 0 to 5, from a deck of n cards less the hand
 unfoldable pub draw_counts : ℕ → List ℕ
 draw_counts n = map (λ k. choose (n - 5) k) (0 ∷ 1 ∷ 2 ∷ 3 ∷ 4 ∷ 5 ∷ [])

@@ -8,7 +8,7 @@ use std::marker::Brand;
 use std::sync::ledger::{Blank, Ledger};
 use std::test::Fail;
 use vp_card::Hand;
-use vp_draws::{Best, plain_best, plain_total, return_denominator, value_of};
+use vp_draws::{Best, many_totals, plain_best, plain_total, return_denominator, value_of};
 use vp_pay::samples::TWO_JOKERS;
 use vp_pay::{PayTable, read_deal};
 use vp_text::Lines;
@@ -54,6 +54,36 @@ fn sum_of<L: Ledger>(table: &PayTable, deal: &[u8], mask: u8, blank: Blank) -> O
     let hand = hand_of(deal, table)?;
     let mut steps = Steps::<L>::new(blank);
     Some(plain_total(table, table.coins, &hand, mask, &mut steps))
+}
+
+/// For how many of the 32 holds the totals of two deals, for the greatest bet, by one walk over all hands, are those by the draws.
+fn totals_that_agree<L: Ledger>(
+    table: &PayTable,
+    first: &Hand,
+    second: &Hand,
+    blank: Blank,
+) -> u32
+    requires table { IsTable table.now }
+    requires first { in_deck table.now.deck first.now ≡ true }
+    requires second { in_deck table.now.deck second.now ≡ true }
+    requires name { blank.name ≡ L.name }
+    requires parts { blank.parts ≡ L.parts }
+    requires share { 0 < blank.parts }
+{
+    let mut steps = Steps::<L>::new(blank);
+    let deals = [*first, *second];
+    let mut totals = [[0; 32]; 2];
+    many_totals(table, table.coins, &deals, &mut totals, &mut steps);
+    let mut agreeing = 0u32;
+    for mask in 0..32u8 {
+        let place = mask as usize;
+        if totals[0][place] == plain_total(table, table.coins, first, mask, &mut steps)
+            && totals[1][place] == plain_total(table, table.coins, second, mask, &mut steps)
+        {
+            agreeing = agreeing.saturating_add(1);
+        }
+    }
+    agreeing
 }
 
 /// A built-in table, or that of the two jokers.
@@ -142,6 +172,21 @@ fn totals_and_denominators(rt: HostRuntime) -> Result<(), Fail> {
     ] {
         assert_eq!(rt; return_denominator(n, 1), denominator);
         assert_eq!(rt; return_denominator(n, 5), 5 * denominator);
+    }
+    Ok(())
+}
+
+#[test]
+fn totals_of_two_deals(rt: HostRuntime) -> Result<(), Fail> {
+    for (index, first, second) in [
+        (0, b"deal As Ks Qs Js 4s", b"deal 8c 8d 8h 8s 3c"),
+        (4, b"deal 2c 3c 4c Jo Jk", b"deal 2c 3c 4c 5c Jo"),
+    ] {
+        let table = table_of(index).ok_or("no such table")?;
+        let first = hand_of(first, &table).ok_or("no hand")?;
+        let second = hand_of(second, &table).ok_or("no hand")?;
+        let agreeing = totals_that_agree::<Brand>(&table, &first, &second, Blank::new(1));
+        assert_eq!(rt; agreeing, 32, "{index}");
     }
     Ok(())
 }

@@ -166,6 +166,56 @@ fn last_lines_of_a_certificate(rt: HostRuntime) -> Result<(), Fail> {
     Ok(())
 }
 
+// Up to 128 class lines are walked at once. A wrong value stands in the last class line, which is the last of 128 or the one behind
+// them, or is not asked.
+#[test]
+fn walks_over_more_lines_than_one_pass_takes(rt: HostRuntime) -> Result<(), Fail> {
+    let right = b"class Kc Ac Ad Ah As 4 30 191742375\n".as_slice();
+    let wrong = b"class Kc Ac Ad Ah As 4 30 191742376\n".as_slice();
+    let sum = b"finding 134475 sum 19842315923796 19842315923800\n".as_slice();
+    let value = b"finding 134474 value 191742376 191742375\n".as_slice();
+    let cases: [(&[u8], &str, &str, Status, &[u8]); 7] = [
+        (
+            right,
+            "134332",
+            "127",
+            Status::Done,
+            b"checked 134459 127\nreturn 19842315923796 / 19933230517200\n",
+        ),
+        (
+            right,
+            "134332",
+            "129",
+            Status::Done,
+            b"checked 134459 128\nreturn 19842315923796 / 19933230517200\n",
+        ),
+        (
+            right,
+            "134331",
+            "129",
+            Status::Done,
+            b"checked 134459 129\nreturn 19842315923796 / 19933230517200\n",
+        ),
+        (wrong, "134332", "127", Status::Finding, sum),
+        (wrong, "134332", "128", Status::Finding, value),
+        (wrong, "134331", "128", Status::Finding, sum),
+        (wrong, "134331", "129", Status::Finding, value),
+    ];
+    let (_, text) = answered(rt.alloc(), &["certify", "1"], JACKS, ROOM)?;
+    let front = text
+        .strip_suffix(JACKS_RETURN)
+        .and_then(|lines| lines.strip_suffix(right))
+        .ok_or("another back")?;
+    for (last, from, count, due, answer) in cases {
+        let changed = joined(rt.alloc(), front, last)?;
+        let input = joined(rt.alloc(), &changed, JACKS_RETURN)?;
+        let (status, text) = answered(rt.alloc(), &["check", from, count], &input, 100)?;
+        assert_eq!(rt; status, due);
+        assert_eq!(rt; text.as_slice(), answer);
+    }
+    Ok(())
+}
+
 // Holding a deuce is worth four fifths of holding nothing, where only the joker pays.
 #[test]
 fn a_certificate_with_a_joker(rt: HostRuntime) -> Result<(), Fail> {

@@ -1,22 +1,22 @@
-use Rattle.std.proofs.Common.{lit<, arith}
+use Rattle.std.proofs.Common.{◌∙◌, arith}
 use Rattle.vp_draws.specs.Draws.{value}
-use Rattle.vp_draws.proofs.Choice.{best_first, best_more, is_best, is_least_best, has_ties}
 use Rattle.vp_hold.proofs.Values.{value_at}
 use Rattle.vp_hold.proofs.game.Game.best.Goals as goal
 
-pub loop-mask-init : goal.loop-mask-init
-loop-mask-init c = best_first (value c.args.self.now.table c.args.self.now.coin c.args.hand.now) _ (value_at _ 0 _ (lit< tt) c.values-values.ensures)
+pub returns-clause-value : goal.returns-clause-value
+returns-clause-value c = c.best_of_values.ensures.value ∙ value_at (value c.args.self.now.table c.args.self.now.coin c.args.hand.now) c.best_of_values.result.mask c.values.result c.best_of_values.ensures.hold c.values.ensures
 
-pub loop-mask-preserved : goal.loop-mask-preserved
-loop-mask-preserved c =
-    best_more (value c.args.self.now.table c.args.self.now.coin c.args.hand.now) c.loop-mask.mask _ c.loop-mask.best c.improve.new.best c.loop-mask.invariant
-    (value_at _ c.loop-mask.mask _ c.loop-mask-test.true c.values-values.ensures) c.improve.ensures.greater c.improve.ensures.equal c.improve.ensures.less
+pub returns-clause-greatest : goal.returns-clause-greatest
+returns-clause-greatest c = λ mask l. omega (arith, c.best_of_values.ensures.greatest mask l, value_at (value c.args.self.now.table c.args.self.now.coin c.args.hand.now) mask c.values.result l c.values.ensures)
+
+pub returns-clause-least : goal.returns-clause-least
+returns-clause-least c = λ mask l. omega (arith, c.best_of_values.ensures.least mask l, value_at (value c.args.self.now.table c.args.self.now.coin c.args.hand.now) mask c.values.result (omega (arith, c.best_of_values.ensures.hold)) c.values.ensures)
 
 pub returns-clause-ties : goal.returns-clause-ties
-returns-clause-ties c = has_ties _ _ _ _ _ (omega arith) c.loop-mask.invariant
+returns-clause-ties c = c.best_of_values.ensures.ties c.args.self.now.table c.args.self.now.coin c.args.hand.now (λ mask l. value_at (value c.args.self.now.table c.args.self.now.coin c.args.hand.now) mask c.values.result l c.values.ensures)
 
 pub returns-clause-best : goal.returns-clause-best
-returns-clause-best c = is_best _ _ _ _ _ (omega arith) c.loop-mask.invariant
+returns-clause-best c = c.best_of_values.ensures.best c.args.self.now.table c.args.self.now.coin c.args.hand.now (λ mask l. value_at (value c.args.self.now.table c.args.self.now.coin c.args.hand.now) mask c.values.result l c.values.ensures)
 
 pub returns-clause-least_best : goal.returns-clause-least_best
-returns-clause-least_best c = is_least_best _ _ _ _ _ (omega arith) c.loop-mask.invariant
+returns-clause-least_best c = c.best_of_values.ensures.least_best c.args.self.now.table c.args.self.now.coin c.args.hand.now (λ mask l. value_at (value c.args.self.now.table c.args.self.now.coin c.args.hand.now) mask c.values.result l c.values.ensures)
