@@ -118,7 +118,7 @@ told_two asked own sums hand mask both e g h d is =
 
 -- a number that is added at the place of a line is added for its hands alone
 mark_same : (place found : Option ℕ) → IfSome place (λ i. i < 32) → IfSome found (λ i. i < 32) → place_among found ≡ place_among place → mark place found ≡ 1
-unfolding place_among is_asked
+unfolding is_asked
 mark_same None None h k e = refl
 mark_same None (Some j) h k e = absurd (omega arith)
 mark_same (Some i) None h k e = absurd (omega arith)
@@ -128,7 +128,7 @@ mark_same (Some i) (Some j) h k e = ap (λ (b : Bool). if b then 1 else 0) (equa
     equal i j e = grind (arith, nat_tests)
 
 mark_other : (place found : Option ℕ) → place_among found ≢ place_among place → mark place found ≡ 0
-unfolding place_among is_asked
+unfolding is_asked
 mark_other None None other = absurd (other refl)
 mark_other None (Some j) other = refl
 mark_other (Some i) None other = refl

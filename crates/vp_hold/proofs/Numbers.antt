@@ -71,7 +71,6 @@ number_le table numbers hand all = small_at 250000000000 numbers (place_among (l
 
 -- if all numbers of lines are small, so are all that the list has
 pub numbers_small : (f : Option ℕ → ℕ) (m : ℕ) (numbers : List ℕ) → AreNumbers f numbers → ((found : Option ℕ) → f found ≤ m) → All (λ x. x ≤ m) numbers
-unfolding place_among
 numbers_small f m numbers are small = All-from_get_or (λ x. x ≤ m) numbers 0 each
   where
     each : (i : ℕ) → i < length numbers → get_or numbers i 0 ≤ m
@@ -88,7 +87,6 @@ numbers_small f m numbers are small = All-from_get_or (λ x. x ≤ m) numbers 0 
 -- each hand is paid the number of its line
 pub paid_told : (table : PayTable) (coin : ℕ) (pays hand : List ℕ) → ((place : ℕ) → place < length table.lines.items → line table hand ≡ Some place → get_or pays place 0 ≡ pay table coin hand)
     → get_or pays 32 0 ≡ 0 → by_line table pays hand ≡ pay table coin hand
-unfolding place_among
 paid_told table coin pays hand each none = at (line table hand) refl
   where
     at : (o : Option ℕ) → line table hand ≡ o → by_line table pays hand ≡ pay table coin hand

@@ -1,12 +1,12 @@
 -- A number for each pay line of a table, and one for the hands with no line.
-use Rattle.std.specs.Prelude.{◌≡◌, ℕ, ◌<◌, List, Option, Some, None, IfSome, length, slice_index}
+use Rattle.std.specs.Prelude.{◌≡◌, ℕ, ◌<◌, List, Option, IfSome, length, slice_index}
+use Rattle.std.specs.Option.{unwrap_or}
 use Rattle.vp_pay.specs.declared.table.PayTable.{PayTable}
 use Rattle.vp_wild.specs.Payment.{line}
 
 -- where the number of the line found stands: that of no line behind those of at most 32 lines
-unfoldable pub place_among : Option ℕ → ℕ
-place_among None = 32
-place_among (Some place) = place
+abbrev pub place_among : Option ℕ → ℕ
+place_among found = unwrap_or found 32
 
 -- the number of the line found, out of a list
 abbrev pub number_of : List ℕ → Option ℕ → ℕ

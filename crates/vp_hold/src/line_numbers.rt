@@ -20,7 +20,6 @@ use vp_wild::{KeptLines, Steps};
 const NO_LINE: u8 = 32;
 
 /// The place of a line, or of none, among the numbers.
-#[tactic(auto, unfolding(crate::specs::Numbers::place_among))]
 pub fn place_of(line: Option<u8>) -> usize
     requires { IfSome line (λ place. place < 32) }
     ensures inside { result < 33 }
@@ -96,16 +95,7 @@ fn write_run<L: Ledger>(
 {
     let [b, c, d, e] = *upper;
     for low in 0..b {
-        let found = kept.line(&[low, b, c, d, e], steps);
-        words[low as usize] = number_at(numbers, found);
+        let slot = kept.slot(&[low, b, c, d, e], steps);
+        words[low as usize] = numbers[slot as usize];
     }
-}
-
-/// The number of the line found.
-fn number_at(numbers: &[u64; 33], found: Option<u8>) -> u64
-    requires many { length numbers.now ≡ 33 }
-    requires inside { IfSome found (λ place. place < 32) }
-    ensures { result ≡ number_of numbers.now found }
-{
-    numbers[place_of(found)]
 }

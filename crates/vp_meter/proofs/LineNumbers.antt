@@ -21,7 +21,7 @@ use Rattle.vp_meter.proofs.Straight.{different_lines, equal_or_not, same_line}
 
 set_number : (numbers : List ℕ) (place x : ℕ) (found : Option ℕ) → length numbers ≡ 33 → place < 32
     → number_of (set numbers place x) found ≡ (if is_line place found then x else number_of numbers found)
-unfolding place_among is_line
+unfolding is_line
 set_number numbers place x None long small = get_or-set_other numbers place 32 x 0 (λ e. absurd (omega (arith, e)))
 set_number numbers place x (Some found) long small = elim (equal_or_not found place) [
   | inl same ↦ rw (same_line found place same) (ap (λ i. get_or (set numbers place x) i 0) same ∙ get_or-set_same numbers place x 0 (omega (arith, long)))
@@ -54,7 +54,6 @@ hit_is table place at hand is small =
 -- ---- the places of all lines
 
 pub places_are : (places : List ℕ) → length places ≡ 33 → ((i : ℕ) → i < 33 → get_or places i 0 ≡ i) → AreNumbers place_among places
-unfolding place_among
 places_are places long each = record { long = long; number = number }
   where
     number : (found : Option ℕ) → IfSome found (λ place. place < 32) → number_of places found ≡ place_among found
@@ -62,7 +61,6 @@ places_are places long each = record { long = long; number = number }
     number (Some place) h = each place (omega arith)
 
 place_le : (found : Option ℕ) → IfSome found (λ place. place < 32) → place_among found ≤ 32
-unfolding place_among
 place_le None h = omega arith
 place_le (Some place) h = omega arith
 

@@ -118,12 +118,13 @@ slot_none table hand found lines is all l = at (line table hand) (line_inside ta
 
 -- ---- what is paid at the slots
 
-pub slot_small : (table : PayTable) (coin : ℕ) (pays hand : List ℕ) (found : ℕ) → ArePaid table coin pays → found ≡ slot table hand → found < 33
-slot_small table coin pays hand found p is = at (line table hand) (line_inside table hand (line table hand) refl) is
+-- a table has at most 32 lines, so that the slots are the places of 33 numbers
+pub slot_small : (table : PayTable) (hand : List ℕ) (found : ℕ) → length table.lines.items ≤ 32 → found ≡ slot table hand → found < 33
+slot_small table hand found few is = at (line table hand) (line_inside table hand (line table hand) refl) is
   where
     at : (o : Option ℕ) → IfSome o (λ i. i < length table.lines.items) → found ≡ unwrap_or o 32 → found < 33
     at None inside e = omega arith
-    at (Some place) inside e = omega (arith, p.few)
+    at (Some place) inside e = omega (arith, few)
 
 pub paid_slots : (table : PayTable) (coin : ℕ) (pays : List ℕ) → length table.lines.items ≤ 32
     → ((hand : List ℕ) (place : ℕ) → place < length table.lines.items → line table hand ≡ Some place → get_or pays place 0 ≡ pay table coin hand) → get_or pays 32 0 ≡ 0 → ArePaid table coin pays

@@ -73,8 +73,9 @@ impl<'a> KeptLines<'a> {
         }
     }
 
-    /// The place of that line, and 32 where the hand hits none.
-    pub(crate) fn slot<L: Ledger>(&mut self, cards: &[u8; 5], steps: &mut Steps<L>) -> u8
+    /// The place of that line, and 32 where the hand hits none: where a number of the hand stands among 33, of which the
+    /// last is that of no line.
+    pub fn slot<L: Ledger>(&mut self, cards: &[u8; 5], steps: &mut Steps<L>) -> u8
         requires five { length cards.now ≡ 5 }
         requires set { IsSet 54 cards.now }
         ensures slot { result ≡ slot self.old cards.now }

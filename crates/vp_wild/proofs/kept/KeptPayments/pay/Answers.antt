@@ -5,7 +5,7 @@ use Rattle.vp_wild.proofs.KeptPlaces.{slot_small}
 use Rattle.vp_wild.proofs.kept.KeptPayments.pay.Goals as goal
 
 pub bounds-self-inside-slot : goal.bounds-self-inside-slot
-bounds-self-inside-slot g c = slot_small c.self.inside.lines c.self.inside.coin c.self.inside.pays c.args.cards.now c.slot.result c.self.invariant.2 c.slot.ensures.slot
+bounds-self-inside-slot g c = slot_small c.self.inside.lines c.args.cards.now c.slot.result c.self.invariant.2.few c.slot.ensures.slot
 
 pub returns-clause-payment : goal.returns-clause-payment
 returns-clause-payment g c =
