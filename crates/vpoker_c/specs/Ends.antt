@@ -5,8 +5,9 @@ use Rattle.vp_answer.specs.Answers.{Answer}
 use Rattle.vp_answer.specs.StatusCode.{code_of}
 use Rattle.vp_answer.specs.declared.status.Status.{Status}
 use Rattle.vp_answer.specs.declared.status.Status.TheVariants.{ReadFault, WriteFault, NoMemory, TooLong}
-use Rattle.vp_run.specs.Answer.{answer, needs_input}
-use Rattle.vpoker_c.specs.Words.{AreWords}
+use Rattle.vp_run.specs.Answer.{answer}
+use Rattle.vp_run.specs.Memory.{IsTooLong}
+use Rattle.vp_handed.specs.Words.{AreWords}
 
 -- a text stands at the front of the room: as many bytes of it were taken as it has, and what is behind them is as before
 pub record Holds (text before after : List ℕ) (taken : ℕ) : Type 0 where
@@ -36,10 +37,6 @@ Ends due before after taken WriteFault = IsCut due before after taken
 Ends due before after taken NoMemory = IsUntouched before after taken
 Ends due before after taken TooLong = IsUntouched before after taken
 Ends due before after taken status = IsWhole due before after taken status
-
--- the words read the input, and it has more bytes than an input may have
-abbrev pub IsTooLong : List Word → List ℕ → Type 0
-IsTooLong words input = (needs_input words ≡ true) × (67108864 < length input)
 
 -- these words are answered to this input; one that is too long gets `TooLong`, if there is memory
 pub record IsAnswered (words : List Word) (input before after : List ℕ) (taken code : ℕ) : Type 0 where

@@ -2,12 +2,8 @@
 use Rattle.std.specs.Prelude.{◌≡◌, ℕ, List, take}
 use Rattle.vp_text.specs.Lines.{Word}
 use Rattle.vpoker_c.specs.Ends.{IsAnswered}
-use Rattle.vpoker_c.specs.Words.{AreWords}
-
--- these are the first six of the words that the bytes are
-abbrev pub AreFirst : List Word → List ℕ → Type 0
-AreFirst first bytes = (given : List Word) → AreWords given bytes → first ≡ take 6 given
 
 -- all words of which these are the first six are answered
 abbrev pub AnswersAll : (first : List Word) (input before after : List ℕ) (taken code : ℕ) → Type 0
-AnswersAll first input before after taken code = (given : List Word) → first ≡ take 6 given → IsAnswered given input before after taken code
+AnswersAll first input before after taken code =
+    (given : List Word) → first ≡ take 6 given → IsAnswered given input before after taken code

@@ -5,11 +5,10 @@ ghost use Rattle.vpoker_c.specs.Ends.{AnswersWords, RefusesOthers};
 
 mod answering;
 mod text_sink;
-mod words;
 
 use crate::answering::answer_into;
-use crate::words::words_in;
 use std::alloc::Global;
+use vp_handed::words_in;
 
 #[cfg(test)]
 mod tests;

@@ -1,6 +1,6 @@
 use Rattle.std.proofs.Common.{map, length}
-use Rattle.vpoker_c.proofs.Splits.{IsSplit}
-use Rattle.vpoker_c.proofs.words.words_in.Given as goal
+use Rattle.vp_handed.proofs.Splits.{IsSplit}
+use Rattle.vp_handed.proofs.words.words_in.Given as goal
 
 abbrev pub invariant-loop-left : goal.invariant-loop-left
 invariant-loop-left l = IsSplit l.bytes l.left (map (λ w. w.now) l.words.items)

@@ -3,14 +3,14 @@
 ghost use Rattle.std.specs.Prelude.{◌≡◌, ℕ, List, ◌∷◌, ◌++◌, map, IfSome, IfNone};
 ghost use Rattle.std.specs.List.{Contains};
 ghost use Rattle.vp_text.specs.Lines.{Word};
-ghost use Rattle.vpoker_c.specs.First.{AreFirst};
-ghost use Rattle.vpoker_c.specs.Words.{AreWords, BeginsWith};
+ghost use Rattle.vp_handed.specs.First.{AreFirst};
+ghost use Rattle.vp_handed.specs.Words.{AreWords, BeginsWith};
 
 use arrayvec::ArrayVec;
 use memchr::memchr;
 
 /// The first six of the words that the bytes are, or nothing where they are no words.
-pub(crate) fn words_in<'a>(bytes: &'a [u8]) -> Option<ArrayVec<&'a str, 6>>
+pub fn words_in<'a>(bytes: &'a [u8]) -> Option<ArrayVec<&'a str, 6>>
     ensures some { IfSome result (λ _. (given : List Word) × AreWords given bytes.now) }
     ensures first { IfSome result (λ words. AreFirst (map (λ w. w.now) words.items) bytes.now) }
     ensures none { IfNone result ((given : List Word) → ¬ AreWords given bytes.now) }

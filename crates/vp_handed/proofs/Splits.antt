@@ -4,7 +4,7 @@ use Rattle.std.specs.List.{Contains}
 use Rattle.std.proofs.lemmas.List.{take-append-le, take_all}
 use Rattle.std.proofs.Math.Seq.{get_or-append_seam}
 use Rattle.vp_text.specs.Lines.{Word}
-use Rattle.vpoker_c.specs.Words.{AreWords, BeginsWith}
+use Rattle.vp_handed.specs.Words.{AreWords, BeginsWith}
 
 -- behind a first byte there is no zero byte either
 tail_whole : (byte : ℕ) (bytes : List ℕ) → ¬ Contains (byte ∷ bytes) 0 → ¬ Contains bytes 0

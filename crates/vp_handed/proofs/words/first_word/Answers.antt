@@ -1,8 +1,8 @@
 -- What stands before the first zero byte is the only word that can stand there.
 use Rattle.std.proofs.Common.{ℕ, List, subst, sym, ◌∙◌}
 use Rattle.std.specs.Str.{IsUtf8}
-use Rattle.vpoker_c.proofs.Splits.{cut_once, zero_stands}
-use Rattle.vpoker_c.proofs.words.first_word.Goals as goal
+use Rattle.vp_handed.proofs.Splits.{cut_once, zero_stands}
+use Rattle.vp_handed.proofs.words.first_word.Goals as goal
 
 pub returns-in_err-word-clause-none : goal.returns-in_err-word-clause-none
 returns-in_err-word-clause-none c =

@@ -3,8 +3,8 @@ use Rattle.std.proofs.Common.{◌≡◌, ℕ, ◌<◌, ◌≤◌, List, [], ◌�
 use Rattle.std.proofs.lemmas.List.{length-map, map-append}
 use Rattle.std.proofs.lemmas.Bool.Decides.{nat_tests}
 use Rattle.vp_text.specs.Lines.{Word}
-use Rattle.vpoker_c.proofs.Splits.{split_first, split_full, split_more, split_stuck, split_whole}
-use Rattle.vpoker_c.proofs.words.words_in.Goals as goal
+use Rattle.vp_handed.proofs.Splits.{split_first, split_full, split_more, split_stuck, split_whole}
+use Rattle.vp_handed.proofs.words.words_in.Goals as goal
 
 abbrev words_of : List (Bor (List ℕ)) → List Word
 words_of items = map (λ w. w.now) items
