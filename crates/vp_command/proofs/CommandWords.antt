@@ -13,7 +13,7 @@ use Rattle.vp_command.specs.Commands.{AreInRange, CommandsAreSpelled, InRange, a
 use Rattle.vp_command.specs.declared.command.Command.{Command}
 use Rattle.vp_command.specs.declared.command.Command.TheVariants.{Over, Tables}
 use Rattle.vp_command.specs.declared.command.Task.{Task}
-use Rattle.vp_command.specs.declared.command.Task.TheVariants.{Certify, Check, Deal, Replay, Sessions, Meter, Audit, Multi, Play, Compile, Cross, Hits}
+use Rattle.vp_command.specs.declared.command.Task.TheVariants.{Certify, Check, Deal, Holds, Replay, Sessions, Meter, Audit, Multi, Play, Compile, Cross, Hits}
 
 -- the words spell the task, and its numbers are in range
 abbrev Spells : List Word → Task → Type 0
@@ -144,6 +144,7 @@ task_spelled : (word : Word) (numbers : List Word) (read : Task) → task_of wor
 unfolding task_of
 task_spelled word numbers read e =
     keyed (codes "deal") word numbers (bet Deal numbers) _ read e (a_bet (codes "deal") Deal (λ coin. refl) (λ coin is. is) numbers read) (λ e.
+    keyed (codes "holds") word numbers (bet Holds numbers) _ read e (a_bet (codes "holds") Holds (λ coin. refl) (λ coin is. is) numbers read) (λ e.
     keyed (codes "certify") word numbers (bet Certify numbers) _ read e (a_bet (codes "certify") Certify (λ coin. refl) (λ coin is. is) numbers read) (λ e.
     keyed (codes "audit") word numbers (bet Audit numbers) _ read e (a_bet (codes "audit") Audit (λ coin. refl) (λ coin is. is) numbers read) (λ e.
     keyed (codes "cross") word numbers (bet Cross numbers) _ read e (a_bet (codes "cross") Cross (λ coin. refl) (λ coin is. is) numbers read) (λ e.
@@ -152,11 +153,12 @@ task_spelled word numbers read e =
     keyed (codes "multi") word numbers (multi numbers) _ read e (a_multi numbers read) (λ e.
     keyed (codes "hits") word numbers (bet Hits numbers) _ read e (a_bet (codes "hits") Hits (λ coin. refl) (λ coin is. is) numbers read) (λ e.
     keyed (codes "play") word numbers (play numbers) _ read e (a_play numbers read) (λ e.
-    keyed (codes "compile") word numbers (compile numbers) None read e (a_compile numbers read) (λ none. absurd cc))))))))))
+    keyed (codes "compile") word numbers (compile numbers) None read e (a_compile numbers read) (λ none. absurd cc)))))))))))
 
 task_read : (task : Task) → InRange task → command_of (task_words task) ≡ Some (Over task)
 unfolding command_of task_of coin_of
 task_read (Deal coin) is = ap (λ o. option_map Over (option_map Deal o)) ((number_within_exact 1 5 (omega arith)).again coin is)
+task_read (Holds coin) is = ap (λ o. option_map Over (option_map Holds o)) ((number_within_exact 1 5 (omega arith)).again coin is)
 task_read (Certify coin) is = ap (λ o. option_map Over (option_map Certify o)) ((number_within_exact 1 5 (omega arith)).again coin is)
 task_read (Audit coin) is = ap (λ o. option_map Over (option_map Audit o)) ((number_within_exact 1 5 (omega arith)).again coin is)
 task_read (Cross coin) is = ap (λ o. option_map Over (option_map Cross o)) ((number_within_exact 1 5 (omega arith)).again coin is)

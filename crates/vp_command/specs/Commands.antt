@@ -8,13 +8,14 @@ use Rattle.vp_pay.specs.Names.{is_name}
 use Rattle.vp_command.specs.declared.command.Command.{Command}
 use Rattle.vp_command.specs.declared.command.Command.TheVariants.{Over, Tables}
 use Rattle.vp_command.specs.declared.command.Task.{Task}
-use Rattle.vp_command.specs.declared.command.Task.TheVariants.{Certify, Check, Deal, Replay, Sessions, Meter, Audit, Multi, Play, Compile, Cross, Hits}
+use Rattle.vp_command.specs.declared.command.Task.TheVariants.{Certify, Check, Deal, Holds, Replay, Sessions, Meter, Audit, Multi, Play, Compile, Cross, Hits}
 
 -- ---- how a command is spelled
 
 -- the words of a task: its name, and its numbers in decimal digits
 abbrev pub task_words : Task → List Word
 task_words (Deal coin) = codes "deal" ∷ decimal coin ∷ []
+task_words (Holds coin) = codes "holds" ∷ decimal coin ∷ []
 task_words (Certify coin) = codes "certify" ∷ decimal coin ∷ []
 task_words (Audit coin) = codes "audit" ∷ decimal coin ∷ []
 task_words (Cross coin) = codes "cross" ∷ decimal coin ∷ []
@@ -73,6 +74,7 @@ pub record IsCompile (coin millionths : ℕ) : Type 0 where
 -- the numbers of a task are in range: a bet is 1 to 5
 abbrev pub InRange : Task → Type 0
 InRange (Deal coin) = (1 ≤ coin) × (coin ≤ 5)
+InRange (Holds coin) = (1 ≤ coin) × (coin ≤ 5)
 InRange (Certify coin) = (1 ≤ coin) × (coin ≤ 5)
 InRange (Audit coin) = (1 ≤ coin) × (coin ≤ 5)
 InRange (Cross coin) = (1 ≤ coin) × (coin ≤ 5)
@@ -168,6 +170,7 @@ compile _ = None
 unfoldable pub task_of : Word → List Word → Option Task
 task_of word numbers =
     if bytes_eq word (codes "deal") then bet Deal numbers
+    else (if bytes_eq word (codes "holds") then bet Holds numbers
     else (if bytes_eq word (codes "certify") then bet Certify numbers
     else (if bytes_eq word (codes "audit") then bet Audit numbers
     else (if bytes_eq word (codes "cross") then bet Cross numbers
@@ -177,7 +180,7 @@ task_of word numbers =
     else (if bytes_eq word (codes "hits") then bet Hits numbers
     else (if bytes_eq word (codes "play") then play numbers
     else (if bytes_eq word (codes "compile") then compile numbers
-    else None)))))))))
+    else None))))))))))
 
 -- the command of a word alone
 abbrev pub alone : Word → Option Command

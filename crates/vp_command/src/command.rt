@@ -13,6 +13,8 @@ use vp_text::number;
 pub enum Task {
     /// `deal COIN`: the best hold of one deal, for a bet of 1 to 5 coins.
     Deal(u8),
+    /// `holds COIN`: all 32 holds of one deal, for a bet of 1 to 5 coins.
+    Holds(u8),
     /// `certify COIN`: the certificate of a pay table, for a bet of 1 to 5 coins.
     Certify(u8),
     /// `audit COIN`: what a strategy list loses, for a bet of 1 to 5 coins.
@@ -103,6 +105,7 @@ fn task_of(word: &str, numbers: &[&str]) -> Option<Task>
 {
     match word {
         "deal" => bet(numbers).map(Task::Deal),
+        "holds" => bet(numbers).map(Task::Holds),
         "certify" => bet(numbers).map(Task::Certify),
         "audit" => bet(numbers).map(Task::Audit),
         "cross" => bet(numbers).map(Task::Cross),
@@ -229,11 +232,7 @@ fn play_of(coin: &[u8], seed: &[u8], games: &[u8]) -> Option<Task>
     let coin = coin_of(coin)?;
     let seed = number(seed)?;
     let games = number_within(1, 100_000, games)?;
-    Some(Task::Play {
-        coin,
-        seed,
-        games,
-    })
+    Some(Task::Play { coin, seed, games })
 }
 
 /// A bet, and how much may be lost.
@@ -254,10 +253,7 @@ fn compile_of(coin: &[u8], millionths: &[u8]) -> Option<Task>
 {
     let coin = coin_of(coin)?;
     let millionths = number_within(0, 1_000_000, millionths)?;
-    Some(Task::Compile {
-        coin,
-        millionths,
-    })
+    Some(Task::Compile { coin, millionths })
 }
 
 /// The number from `least` to `most` that a word spells in its decimal digits.

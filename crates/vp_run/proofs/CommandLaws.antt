@@ -46,6 +46,8 @@ use Rattle.vp_gen.proofs.PlayTells.{plays_replayed}
 use Rattle.vp_hits.specs.HitsJob.{hits_input}
 use Rattle.vp_hits.specs.HitsTells.{PrintsChances}
 use Rattle.vp_hits.proofs.HitsTells.{hits_print}
+use Rattle.vp_holds.specs.HoldsTell.{PrintsHolds}
+use Rattle.vp_holds.proofs.HoldsTell.{holds_tell}
 use Rattle.vp_meter.specs.Meter.{meter_input, metering_of}
 use Rattle.vp_meter.specs.MeterTells.{PrintsMeter}
 use Rattle.vp_meter.proofs.MeterTells.{meters_told}
@@ -59,7 +61,7 @@ use Rattle.vp_sessions.specs.Sessions.{session_text, sessions_input}
 use Rattle.vp_sessions.specs.SessionsTell.{IsReplayedAlone, NamesRecord, TellsSessions}
 use Rattle.vp_sessions.proofs.SessionsTell.{sessions_apart, sessions_replayed}
 use Rattle.vp_run.specs.Answer.{answer, heap_due, job_of, lent_due, task_answer}
-use Rattle.vp_run.specs.CommandLaws.{Asks, AreYes, AuditsPrintLosses, CertificatesAreChecked, CertificatesTellEveryDeal, ChecksTellEveryDeal, ChecksTellWalkedDeals, CompiledListsAreAudited, CompiledListsLoseLittle, CrossesPricePlay, DealsPrintBestHolds, HasEachSession, HitsPrintChances, IsAnsweredAlone, IsAuditedSo, IsCheckedWell, IsYes, MetersAreTold, MultisPrintMoments, PartsTellEveryDeal, PartsTellWalkedDeals, PlaysAreReplayed, ReplaysTellCosts, SessionsAreInTheAnswer, SessionsAreReplayed, Tells, TellsEachSession, TellsPlayed}
+use Rattle.vp_run.specs.CommandLaws.{Asks, AreYes, AuditsPrintLosses, CertificatesAreChecked, CertificatesTellEveryDeal, ChecksTellEveryDeal, ChecksTellWalkedDeals, CompiledListsAreAudited, CompiledListsLoseLittle, CrossesPricePlay, DealsPrintBestHolds, HasEachSession, HitsPrintChances, HoldsTellEveryHold, IsAnsweredAlone, IsAuditedSo, IsCheckedWell, IsYes, MetersAreTold, MultisPrintMoments, PartsTellEveryDeal, PartsTellWalkedDeals, PlaysAreReplayed, ReplaysTellCosts, SessionsAreInTheAnswer, SessionsAreReplayed, Tells, TellsEachSession, TellsPlayed}
 use Rattle.vp_run.specs.declared.job.HeapJob.{HeapJob}
 use Rattle.vp_run.specs.declared.job.HeapJob.TheVariants as heap
 use Rattle.vp_run.specs.declared.job.LentJob.{LentJob}
@@ -86,6 +88,11 @@ pub deals : DealsPrintBestHolds
 deals coin = told (task.Deal coin) (deal_input coin) (λ read. Lent (lent.Deal (record { table = read.0; coin = coin; hand = read.1 }))) (λ read. PrintsHold (record { table = read.0; coin = coin; hand = read.1 }))
     (λ bytes read says. ap (λ r. as_job (λ job. Lent (lent.Deal job)) (read_as (λ read. record { table = read.0; coin = coin; hand = read.1 }) r)) says)
     (λ bytes read range says. deals_print coin bytes read.0 read.1 says)
+
+pub holds : HoldsTellEveryHold
+holds coin = told (task.Holds coin) (deal_input coin) (λ read. Lent (lent.Holds (record { table = read.0; coin = coin; hand = read.1 }))) (λ read. PrintsHolds (record { table = read.0; coin = coin; hand = read.1 }))
+    (λ bytes read says. ap (λ r. as_job (λ job. Lent (lent.Holds job)) (read_as (λ read. record { table = read.0; coin = coin; hand = read.1 }) r)) says)
+    (λ bytes read range says. holds_tell coin bytes read.0 read.1 says)
 
 pub certificates : CertificatesTellEveryDeal
 certificates coin = told (task.Certify coin) (certify_input coin) (λ read. Lent (lent.Certify (record { table = read.0; coin = coin }))) (λ read. PrintsAll read.0 coin)

@@ -16,6 +16,7 @@ use Rattle.vp_command.specs.declared.command.Command.TheVariants.{Over, Tables}
 use Rattle.vp_command.specs.declared.command.Task.{Task}
 use Rattle.vp_command.specs.declared.command.Task.TheVariants as task
 use Rattle.vp_deal.specs.Deal.{deal_due, deal_job}
+use Rattle.vp_holds.specs.Holds.{holds_due}
 use Rattle.vp_cert.specs.Certify.{certify_due, certify_job}
 use Rattle.vp_audit.specs.Audit.{audit_due, audit_job}
 use Rattle.vp_cross.specs.Cross.{cross_due, cross_job}
@@ -37,6 +38,7 @@ use Rattle.vp_run.specs.declared.job.LentJob.TheVariants as lent
 -- in lent words alone: how many, and the text
 abbrev pub lent_due : LentJob → Due
 lent_due (lent.Deal job) = deal_due job
+lent_due (lent.Holds job) = holds_due job
 lent_due (lent.Certify job) = certify_due job
 lent_due (lent.Audit job) = audit_due job
 lent_due (lent.Cross job) = cross_due job
@@ -55,6 +57,7 @@ heap_due (heap.Compile job) = compile_due job
 -- what a task leaves to do, or where its input is stopped at
 abbrev pub job_of : Task → List ℕ → Result (Job LentJob HeapJob) Stop
 job_of (task.Deal coin) bytes = as_job (λ job. Lent (lent.Deal job)) (deal_job coin bytes)
+job_of (task.Holds coin) bytes = as_job (λ job. Lent (lent.Holds job)) (deal_job coin bytes)
 job_of (task.Certify coin) bytes = as_job (λ job. Lent (lent.Certify job)) (certify_job coin bytes)
 job_of (task.Audit coin) bytes = as_job (λ job. Lent (lent.Audit job)) (audit_job coin bytes)
 job_of (task.Cross coin) bytes = as_job (λ job. Lent (lent.Cross job)) (cross_job coin bytes)

@@ -31,6 +31,7 @@ use Rattle.vp_gen.specs.Play.{Played, log_of, play_input}
 use Rattle.vp_gen.specs.PlayTells.{TellsPlay}
 use Rattle.vp_hits.specs.HitsJob.{hits_input}
 use Rattle.vp_hits.specs.HitsTells.{PrintsChances}
+use Rattle.vp_holds.specs.HoldsTell.{PrintsHolds}
 use Rattle.vp_meter.specs.Meter.{meter_input}
 use Rattle.vp_meter.specs.MeterTells.{PrintsMeter}
 use Rattle.vp_multi.specs.Multi.{multi_input}
@@ -57,6 +58,11 @@ Tells {A} task input IsTold = (words : List Word) (bytes : List ℕ) (read : A)
 abbrev pub DealsPrintBestHolds : Type 0
 DealsPrintBestHolds = (coin : ℕ) → Tells (task.Deal coin) (deal_input coin)
     (λ read. PrintsHold (record { table = read.0; coin = coin; hand = read.1 }))
+
+-- `holds` prints each hold of the deal, with its mean payment and how many of its draws end on each pay line
+abbrev pub HoldsTellEveryHold : Type 0
+HoldsTellEveryHold = (coin : ℕ) → Tells (task.Holds coin) (deal_input coin)
+    (λ read. PrintsHolds (record { table = read.0; coin = coin; hand = read.1 }))
 
 -- `certify` prints a certificate that tells the best hold and the value of every deal
 abbrev pub CertificatesTellEveryDeal : Type 0

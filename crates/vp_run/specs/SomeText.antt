@@ -2,6 +2,7 @@
 use Rattle.std.specs.Prelude.{◌<◌, length}
 use Rattle.vp_run.specs.Answer.{heap_due, lent_due}
 use Rattle.vp_deal.specs.Deal.{deal_some}
+use Rattle.vp_holds.specs.Holds.{holds_some}
 use Rattle.vp_cert.specs.Certify.{certify_some}
 use Rattle.vp_audit.specs.Audit.{audit_some}
 use Rattle.vp_cross.specs.Cross.{cross_some}
@@ -21,6 +22,7 @@ use Rattle.vp_run.specs.declared.job.LentJob.TheVariants as lent
 -- the text of a job that takes no memory but what it is lent has a byte at least
 abbrev pub lent_some : (job : LentJob) → 0 < length (lent_due job).text
 lent_some (lent.Deal job) = deal_some job
+lent_some (lent.Holds job) = holds_some job
 lent_some (lent.Certify job) = certify_some job
 lent_some (lent.Audit job) = audit_some job
 lent_some (lent.Cross job) = cross_some job

@@ -14,6 +14,7 @@ use vp_cross::CrossJob;
 use vp_deal::DealJob;
 use vp_gen::PlayJob;
 use vp_hits::HitsJob;
+use vp_holds::HoldsJob;
 use vp_io::{Sink, WriteFault};
 use vp_meter::MeterJob;
 use vp_multi::MultiJob;
@@ -24,6 +25,7 @@ use vp_sessions::SessionsJob;
 #[derive(Drop)]
 pub enum LentJob<'a> {
     Deal(DealJob),
+    Holds(HoldsJob),
     Certify(CertifyJob),
     Audit(AuditJob<'a>),
     Cross(CrossJob),
@@ -53,6 +55,7 @@ impl<'a> Work for LentJob<'a> {
     fn words(&self) -> usize {
         match self {
             LentJob::Deal(job) => job.words(),
+            LentJob::Holds(job) => job.words(),
             LentJob::Certify(job) => job.words(),
             LentJob::Audit(job) => job.words(),
             LentJob::Cross(job) => job.words(),
@@ -67,6 +70,7 @@ impl<'a> Work for LentJob<'a> {
     fn put<K: Sink>(&self, memory: &mut [u64], sink: &mut K) -> Result<(), WriteFault> {
         match self {
             LentJob::Deal(job) => job.put(memory, sink),
+            LentJob::Holds(job) => job.put(memory, sink),
             LentJob::Certify(job) => job.put(memory, sink),
             LentJob::Audit(job) => job.put(memory, sink),
             LentJob::Cross(job) => job.put(memory, sink),
@@ -112,6 +116,7 @@ pub(crate) fn job_of(task: Task, bytes: &[u8]) -> Result<Job<LentJob<'_>, HeapJo
 {
     Ok(match task {
         Task::Deal(coin) => Job::Lent(LentJob::Deal(DealJob::read(coin, bytes)?)),
+        Task::Holds(coin) => Job::Lent(LentJob::Holds(HoldsJob::read(coin, bytes)?)),
         Task::Certify(coin) => Job::Lent(LentJob::Certify(CertifyJob::read(coin, bytes)?)),
         Task::Audit(coin) => Job::Lent(LentJob::Audit(AuditJob::read(coin, bytes)?)),
         Task::Cross(coin) => Job::Lent(LentJob::Cross(CrossJob::read(coin, bytes)?)),

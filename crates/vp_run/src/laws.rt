@@ -1,6 +1,6 @@
 // Laws of the answers, from the words and the bytes on. What each says of its command is the law of the command's crate.
 ghost use Rattle.vp_run.specs.Answer.{AnswersAreOfTasks, UsageIsForNoCommand};
-ghost use Rattle.vp_run.specs.CommandLaws.{AuditsPrintLosses, CertificatesAreChecked, CertificatesTellEveryDeal, ChecksTellEveryDeal, ChecksTellWalkedDeals, CompiledListsAreAudited, CompiledListsLoseLittle, CrossesPricePlay, DealsPrintBestHolds, HitsPrintChances, MetersAreTold, MultisPrintMoments, PartsTellEveryDeal, PartsTellWalkedDeals, PlaysAreReplayed, ReplaysTellCosts, SessionsAreInTheAnswer, SessionsAreReplayed};
+ghost use Rattle.vp_run.specs.CommandLaws.{AuditsPrintLosses, CertificatesAreChecked, CertificatesTellEveryDeal, ChecksTellEveryDeal, ChecksTellWalkedDeals, CompiledListsAreAudited, CompiledListsLoseLittle, CrossesPricePlay, DealsPrintBestHolds, HitsPrintChances, HoldsTellEveryHold, MetersAreTold, MultisPrintMoments, PartsTellEveryDeal, PartsTellWalkedDeals, PlaysAreReplayed, ReplaysTellCosts, SessionsAreInTheAnswer, SessionsAreReplayed};
 
 /// The line on usage is the answer to words that are no command, whatever the input, and to no others.
 #[tactic(auto, using(crate::proofs::NoCommand::usage_is))]
@@ -18,6 +18,12 @@ pub fn answers_are_of_tasks()
 /// (`deals_print_best_holds` of `vp_deal`).
 pub fn deals_print_best_holds()
     ensures { DealsPrintBestHolds }
+{}
+
+/// The answer of `holds` to each pay table and deal that it takes is the deal line and a line for each of the 32 holds
+/// (`holds_tell_every_hold` of `vp_holds`).
+pub fn holds_tell_every_hold()
+    ensures { HoldsTellEveryHold }
 {}
 
 /// The answer of `certify` to each pay table that it takes is a certificate that tells every deal. So does every
