@@ -66,7 +66,7 @@ uint8_t vpoker_answer_lent(const uint8_t *words, size_t words_len, const uint8_t
 
 /*
  * Writes to *needed how many words of 64 bits the answer to these words and this input takes, no more and no fewer, and
- * gives 0. A table of sums has 2893164 words for 52 cards (23 MB) and 3526884 for 54. Where no number is enough, *needed
+ * gives 0. A table of sums has 2893164 words for 52 cards (23 MB) and 3505051 for 54. Where no number is enough, *needed
  * is 0, and the code is what vpoker_answer_lent would end with.
  */
 uint8_t vpoker_words_to_lend(const uint8_t *words, size_t words_len, const uint8_t *input, size_t input_len, size_t *needed);
