@@ -1,0 +1,4 @@
+pub mod Ranked
+pub mod LineShares
+pub mod HoldLines
+pub mod HoldsTell

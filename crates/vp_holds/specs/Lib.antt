@@ -1,0 +1,3 @@
+pub mod Ranking
+pub mod Holds
+pub mod HoldsTell
