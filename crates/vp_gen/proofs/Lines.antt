@@ -1,12 +1,10 @@
 -- The lines of a made log, one behind the other.
 use Rattle.std.proofs.Common.{◌≡◌, ℕ, zero, suc, ◌+◌, ◌-◌, ◌*◌, ◌<◌, ◌≤◌, List, [], ◌∷◌, ◌++◌, map, sym, ap, ◌∙◌, arith, append_assoc}
 use Rattle.std.specs.Prelude.{codes}
-use Rattle.std.specs.Fmt.{decimal}
 use Rattle.std.proofs.lemmas.List.{append-nil}
 use Rattle.std.proofs.lemmas.List.Concat.{flat_map-cons}
 use Rattle.std.proofs.lemmas.Grind.{flat_map-append}
-use Rattle.vp_text.specs.Written.{with_word, line_of, written}
-use Rattle.vp_text.proofs.WithWords.{line_bytes}
+use Rattle.vp_text.specs.Written.{line_of, written}
 use Rattle.vp_pay.specs.declared.table.PayTable.{PayTable}
 use Rattle.vp_loggram.specs.Spelling.{event_words, key_number, log_text}
 use Rattle.vp_loggram.specs.declared.event.Event.{Event}
