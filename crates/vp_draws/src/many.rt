@@ -193,7 +193,8 @@ fn add_to(row: &mut [u64; 32], mask: u8, payment: u64)
 /// Adds a payment to the totals of each deal at its mask, which the two numbers for the deal sum to.
 fn add(totals: &mut [[u64; 32]], masks: &[u8; 256], more: &[u8; 256], payment: u64)
     requires few { length totals.old ≤ 256 }
-    requires small { (k : ℕ) → k < 256 → slice_index masks.now k + slice_index more.now k < 32 }
+    requires small { (k : ℕ) → k < length totals.old
+        → slice_index masks.now k + slice_index more.now k < 32 }
     requires room { (k : ℕ) → k < length totals.old
         → cell totals.old k (slice_index masks.now k + slice_index more.now k) + payment < 2 ^ 64 }
     ensures { (k m : ℕ) → k < length totals.old → cell totals.new k m ≡ cell totals.old k m
@@ -204,14 +205,15 @@ fn add(totals: &mut [[u64; 32]], masks: &[u8; 256], more: &[u8; 256], payment: u
     }
 }
 
-/// The masks of the chosen cards and one more.
-fn with_card(masks: &[u8; 256], more: &[u8; 256]) -> [u8; 256]
-    requires small { (k : ℕ) → k < 256 → slice_index masks.now k + slice_index more.now k < 32 }
-    ensures { (k : ℕ) → k < 256 → slice_index result k ≡ slice_index masks.now k
+/// The masks of the chosen cards and one more, in so many deals.
+fn with_card(masks: &[u8; 256], more: &[u8; 256], many: usize) -> [u8; 256]
+    requires few { many ≤ 256 }
+    requires small { (k : ℕ) → k < many → slice_index masks.now k + slice_index more.now k < 32 }
+    ensures { (k : ℕ) → k < many → slice_index result k ≡ slice_index masks.now k
         + slice_index more.now k }
 {
     let mut both = [0; 256];
-    for k in 0..256 {
+    for k in 0..many {
         both[k] = masks[k] + more[k];
     }
     both
@@ -276,7 +278,7 @@ impl<'a> Deals<'a> {
         ensures { AreMasks self.now (chosen.now ++ card ∷ []) result }
     {
         let more = self.masks[card as usize];
-        with_card(masks, &more)
+        with_card(masks, &more, self.hands.len())
     }
 
     /// Adds the payment of a hand, four cards and one more above them, to the totals of its mask in each deal.
