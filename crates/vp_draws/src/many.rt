@@ -138,7 +138,16 @@ fn walk<L: Ledger>(
     } else if low < n {
         let more = followed(chosen, low);
         let masks_of_more = deals.with_card(chosen, masks, low);
-        walk(payments, n, deals, more.as_slice(), low + 1, &masks_of_more, totals, steps);
+        walk(
+            payments,
+            n,
+            deals,
+            more.as_slice(),
+            low + 1,
+            &masks_of_more,
+            totals,
+            steps,
+        );
         walk(payments, n, deals, chosen, low + 1, masks, totals, steps);
     }
 }
@@ -249,9 +258,9 @@ impl<'a> Model for Deals<'a> {
     ghost view = { λ d. d.hands.now };
 
     ghost invariant = { λ d. record {
-        few : length d.hands.now ≤ 256;
-        hands : (k : ℕ) → k < length d.hands.now → IsHand (deal_at d.hands.now k);
-        masks : (c : ℕ) → c < 54 → AreMasks d.hands.now (c ∷ []) (slice_index_or d.masks c []);
+      few : length d.hands.now ≤ 256;
+      hands : (k : ℕ) → k < length d.hands.now → IsHand (deal_at d.hands.now k);
+      masks : (c : ℕ) → c < 54 → AreMasks d.hands.now (c ∷ []) (slice_index_or d.masks c []);
     } };
 }
 
@@ -282,7 +291,14 @@ impl<'a> Deals<'a> {
     }
 
     /// Adds the payment of a hand, four cards and one more above them, to the totals of its mask in each deal.
-    fn add(&self, chosen: &[u8], masks: &[u8; 256], card: u8, payment: u64, totals: &mut [[u64; 32]])
+    fn add(
+        &self,
+        chosen: &[u8],
+        masks: &[u8; 256],
+        card: u8,
+        payment: u64,
+        totals: &mut [[u64; 32]],
+    )
         requires few { length chosen.now < 5 }
         requires set { IsSet card chosen.now }
         requires card { card < 54 }
