@@ -82,6 +82,6 @@ pub mask_breaks : (table : PayTable) (coin : ℕ) (line : ClassLine) (due worth 
 unfolding walked_breach value_breach mask_breach
 mask_breaks table coin line due worth is same has =
     rw (is, has) (
-        sym (first_single (mask_breach table coin line))
-        ∙ ap (λ (b : Bool). first_of (broken_if (not b) Value line.value (best table coin line.hand) ∷ mask_breach table coin line ∷ [])) (sym (eq-eqb line.value (best table coin line.hand) (same ∙ is)))
+    sym (first_single (mask_breach table coin line))
+    ∙ ap (λ (b : Bool). first_of (broken_if (not b) Value line.value (best table coin line.hand) ∷ mask_breach table coin line ∷ [])) (sym (eq-eqb line.value (best table coin line.hand) (same ∙ is)))
     )

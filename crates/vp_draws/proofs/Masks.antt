@@ -11,7 +11,7 @@ use Rattle.vp_sets.specs.Index.{IsSet}
 use Rattle.vp_sets.proofs.Colex.{set_below}
 use Rattle.vp_sets.proofs.Holds.{Dealt}
 use Rattle.vp_sets.proofs.Masks.{mask_small}
-use Rattle.vp_sets.proofs.ByMask.{mask_of-none, mask_push}
+use Rattle.vp_sets.proofs.ByMask.{mask_push}
 use Rattle.vp_draws.specs.ByLine.{summed}
 use Rattle.vp_draws.specs.Draws.{total}
 use Rattle.vp_draws.specs.Many.{AreMasks, cell, deal_at}
@@ -28,13 +28,9 @@ pub unpaid : (b : Bool) (before payment : ℕ) → payment ≡ 0 → before ≡ 
 unpaid true before payment e = omega arith
 unpaid false before payment e = omega arith
 
--- there is no card past the last deal
-pub no_masks : (cards : List ℕ) (deals : List (List ℕ)) (k : ℕ) → length deals ≤ k → mask_of cards (deal_at deals k) ≡ 0
-no_masks cards deals k l = ap (λ deal. mask_of cards deal) (get_or_past deals k [] l) ∙ mask_of-none cards
-
 -- the masks of the chosen cards, with those of one more above them
 pub masks_grow : (deals : List (List ℕ)) (chosen : List ℕ) (card : ℕ) (masks more : List ℕ) → IsSet card chosen → AreMasks deals chosen masks → AreMasks deals (card ∷ []) more
-    → (k : ℕ) → k < 256 → get_or masks k 0 + get_or more k 0 ≡ mask_of (chosen ++ card ∷ []) (deal_at deals k)
+    → (k : ℕ) → k < length deals → get_or masks k 0 + get_or more k 0 ≡ mask_of (chosen ++ card ∷ []) (deal_at deals k)
 masks_grow deals chosen card masks more set a b k l =
     omega (arith, a k l, b k l, mask_push chosen card (deal_at deals k) (below_absent card chosen (set_below card chosen set)))
 

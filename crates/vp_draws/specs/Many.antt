@@ -12,9 +12,9 @@ deal_at deals k = slice_index_or deals k []
 abbrev pub cell : List (List ℕ) → ℕ → ℕ → ℕ
 cell rows k mask = slice_index (slice_index_or rows k []) mask
 
--- the masks that hold, of each of up to 256 deals, just these cards
+-- the masks that hold, of each of the deals, just these cards
 abbrev pub AreMasks : List (List ℕ) → List ℕ → List ℕ → Type 0
-AreMasks deals cards masks = (k : ℕ) → k < 256 → slice_index masks k ≡ mask_of cards (deal_at deals k)
+AreMasks deals cards masks = (k : ℕ) → k < length deals → slice_index masks k ≡ mask_of cards (deal_at deals k)
 
 -- the values of the 32 holds of a hand, by their masks
 abbrev pub AreValues : PayTable → ℕ → List ℕ → List ℕ → Type 0

@@ -138,7 +138,16 @@ fn walk<L: Ledger>(
     } else if low < n {
         let more = followed(chosen, low);
         let masks_of_more = deals.with_card(chosen, masks, low);
-        walk(payments, n, deals, more.as_slice(), low + 1, &masks_of_more, totals, steps);
+        walk(
+            payments,
+            n,
+            deals,
+            more.as_slice(),
+            low + 1,
+            &masks_of_more,
+            totals,
+            steps,
+        );
         walk(payments, n, deals, chosen, low + 1, masks, totals, steps);
     }
 }
@@ -193,7 +202,8 @@ fn add_to(row: &mut [u64; 32], mask: u8, payment: u64)
 /// Adds a payment to the totals of each deal at its mask, which the two numbers for the deal sum to.
 fn add(totals: &mut [[u64; 32]], masks: &[u8; 256], more: &[u8; 256], payment: u64)
     requires few { length totals.old ≤ 256 }
-    requires small { (k : ℕ) → k < 256 → slice_index masks.now k + slice_index more.now k < 32 }
+    requires small { (k : ℕ) → k < length totals.old
+        → slice_index masks.now k + slice_index more.now k < 32 }
     requires room { (k : ℕ) → k < length totals.old
         → cell totals.old k (slice_index masks.now k + slice_index more.now k) + payment < 2 ^ 64 }
     ensures { (k m : ℕ) → k < length totals.old → cell totals.new k m ≡ cell totals.old k m
@@ -204,14 +214,15 @@ fn add(totals: &mut [[u64; 32]], masks: &[u8; 256], more: &[u8; 256], payment: u
     }
 }
 
-/// The masks of the chosen cards and one more.
-fn with_card(masks: &[u8; 256], more: &[u8; 256]) -> [u8; 256]
-    requires small { (k : ℕ) → k < 256 → slice_index masks.now k + slice_index more.now k < 32 }
-    ensures { (k : ℕ) → k < 256 → slice_index result k ≡ slice_index masks.now k
+/// The masks of the chosen cards and one more, in so many deals.
+fn with_card(masks: &[u8; 256], more: &[u8; 256], many: usize) -> [u8; 256]
+    requires few { many ≤ 256 }
+    requires small { (k : ℕ) → k < many → slice_index masks.now k + slice_index more.now k < 32 }
+    ensures { (k : ℕ) → k < many → slice_index result k ≡ slice_index masks.now k
         + slice_index more.now k }
 {
     let mut both = [0; 256];
-    for k in 0..256 {
+    for k in 0..many {
         both[k] = masks[k] + more[k];
     }
     both
@@ -247,9 +258,9 @@ impl<'a> Model for Deals<'a> {
     ghost view = { λ d. d.hands.now };
 
     ghost invariant = { λ d. record {
-        few : length d.hands.now ≤ 256;
-        hands : (k : ℕ) → k < length d.hands.now → IsHand (deal_at d.hands.now k);
-        masks : (c : ℕ) → c < 54 → AreMasks d.hands.now (c ∷ []) (slice_index_or d.masks c []);
+      few : length d.hands.now ≤ 256;
+      hands : (k : ℕ) → k < length d.hands.now → IsHand (deal_at d.hands.now k);
+      masks : (c : ℕ) → c < 54 → AreMasks d.hands.now (c ∷ []) (slice_index_or d.masks c []);
     } };
 }
 
@@ -276,11 +287,18 @@ impl<'a> Deals<'a> {
         ensures { AreMasks self.now (chosen.now ++ card ∷ []) result }
     {
         let more = self.masks[card as usize];
-        with_card(masks, &more)
+        with_card(masks, &more, self.hands.len())
     }
 
     /// Adds the payment of a hand, four cards and one more above them, to the totals of its mask in each deal.
-    fn add(&self, chosen: &[u8], masks: &[u8; 256], card: u8, payment: u64, totals: &mut [[u64; 32]])
+    fn add(
+        &self,
+        chosen: &[u8],
+        masks: &[u8; 256],
+        card: u8,
+        payment: u64,
+        totals: &mut [[u64; 32]],
+    )
         requires few { length chosen.now < 5 }
         requires set { IsSet card chosen.now }
         requires card { card < 54 }

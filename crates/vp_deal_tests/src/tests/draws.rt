@@ -57,12 +57,7 @@ fn sum_of<L: Ledger>(table: &PayTable, deal: &[u8], mask: u8, blank: Blank) -> O
 }
 
 /// For how many of the 32 holds the totals of two deals, for the greatest bet, by one walk over all hands, are those by the draws.
-fn totals_that_agree<L: Ledger>(
-    table: &PayTable,
-    first: &Hand,
-    second: &Hand,
-    blank: Blank,
-) -> u32
+fn totals_that_agree<L: Ledger>(table: &PayTable, first: &Hand, second: &Hand, blank: Blank) -> u32
     requires table { IsTable table.now }
     requires first { in_deck table.now.deck first.now ≡ true }
     requires second { in_deck table.now.deck second.now ≡ true }

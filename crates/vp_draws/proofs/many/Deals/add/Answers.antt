@@ -8,7 +8,7 @@ pub add-requires-clause-small : goal.add-requires-clause-small
 add-requires-clause-small c =
     let more : AreMasks c.args.self.now (c.args.card ∷ []) (get_or c.self.inside.masks c.args.card []) = subst (λ (d : List (List ℕ)). AreMasks d (c.args.card ∷ []) (get_or c.self.inside.masks c.args.card [])) c.self.view_is (c.self.invariant.masks c.args.card c.requires.card) in
     let few = subst (λ (d : List (List ℕ)). (k : ℕ) → length (deal_at d k) ≤ 5) c.self.view_is (few_cards c.self.inside.hands.now c.self.invariant.hands) in
-    λ k l. omega (arith, masks_grow c.args.self.now c.args.chosen.now c.args.card c.args.masks.now (get_or c.self.inside.masks c.args.card []) c.requires.set c.requires.masks more k l, mask_lt (c.args.chosen.now ++ c.args.card ∷ []) (deal_at c.args.self.now k) (few k))
+    λ k l. omega (arith, masks_grow c.args.self.now c.args.chosen.now c.args.card c.args.masks.now (get_or c.self.inside.masks c.args.card []) c.requires.set c.requires.masks more k (omega (arith, l, c.requires.rows)), mask_lt (c.args.chosen.now ++ c.args.card ∷ []) (deal_at c.args.self.now k) (few k))
 
 pub add-requires-clause-room : goal.add-requires-clause-room
 add-requires-clause-room c =
