@@ -222,9 +222,30 @@ fn lent_words(rt: HostRuntime) -> Result<(), Fail> {
     let input = joined(rt.alloc(), JACKS, ROYAL_DRAW)?;
     let cases: [(&[&str], &[u8], usize, u64, Status, &[u8]); 4] = [
         (&["deal", "1"], &input, 2_893_163, 0, Status::NoMemory, b""),
-        (&["deal", "1"], &input, 2_893_164, 0, Status::Done, ROYAL_DRAW_ANSWER),
-        (&["deal", "1"], &input, 2_893_164, u64::MAX, Status::Done, ROYAL_DRAW_ANSWER),
-        (&["play", "1", "1", "1"], JACKS, 2_893_164, 0, Status::NoMemory, b""),
+        (
+            &["deal", "1"],
+            &input,
+            2_893_164,
+            0,
+            Status::Done,
+            ROYAL_DRAW_ANSWER,
+        ),
+        (
+            &["deal", "1"],
+            &input,
+            2_893_164,
+            u64::MAX,
+            Status::Done,
+            ROYAL_DRAW_ANSWER,
+        ),
+        (
+            &["play", "1", "1", "1"],
+            JACKS,
+            2_893_164,
+            0,
+            Status::NoMemory,
+            b"",
+        ),
     ];
     for (words, bytes, lent, number, due, text) in cases {
         let mut region = Region::open(rt.alloc(), lent)?;
