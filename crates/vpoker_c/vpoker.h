@@ -32,21 +32,29 @@ enum {
  * Answers a command to an input.
  *
  * words   the words of the command, as behind the program's name on a command line, one behind another, each ended by a
- *         zero byte, in words_len bytes, the zero bytes counted. In C: "deal\0" "5" and its sizeof. Each is UTF-8; else,
- *         or where the last has no zero byte, the code is VPOKER_WORDS. No bytes are no words.
+ *         zero byte, in words_len bytes, the zero bytes counted. In C: "deal\0" "5" and its sizeof; not "deal 5", and
+ *         without the program's name, which give "usage". Each is UTF-8; else, or where the last has no zero byte, the
+ *         code is VPOKER_WORDS. No bytes are no words.
  * input   what the program would read from its standard input, in input_len bytes. It may have zero bytes, and needs none
  *         at its end.
- * room    where the text goes, which the program would write to its standard output, with room for room_len bytes.
+ * room    where the text goes, which the program would write to its standard output, with room for room_len bytes. A call
+ *         takes room_len bytes from malloc too, so a room that is much larger than the text costs memory, and one that is
+ *         too large for malloc ends with VPOKER_NO_MEMORY whatever the words.
  * taken   where the number of bytes of the text that stand in the room is written, whatever the code is.
+ *
+ * Call it as
+ *     code = vpoker_answer((const uint8_t *)"deal\0" "5", sizeof "deal\0" "5", input, input_len, room, room_len, &taken);
+ * and take the text where code is 0, 1, 2 or 3, not where it is 0 alone.
  *
  * With VPOKER_DONE, VPOKER_FINDING, VPOKER_USAGE and VPOKER_REFUSED the first *taken bytes of the room are the whole text:
  * byte for byte that of the program, which ends with the same code. With VPOKER_ROOM the text is longer than the room,
  * *taken is room_len, and the room is full of the text's beginning; with room enough this code never comes. With the
  * others *taken is 0. What is behind the first *taken bytes of the room is as it was. No zero byte ends the text.
  *
- * How much room: 4 KiB for deal, check, multi, play and tables, 16 KiB for audit, 8000000 bytes for certify and compile,
- * more for meter; the texts of replay and sessions grow with the logs. These are not proved; where a room was too small,
- * call again with more. The answer depends on nothing but the words and the input.
+ * How much room: 4 KiB for deal, check, cross, hits, multi, play and tables, 16 KiB for audit and holds, 8000000 bytes for
+ * certify and compile, more for meter; the texts of replay and sessions grow with the logs. These are not proved; where a
+ * room was too small, call again with more: all of the work is done again. The answer depends on nothing but the words and
+ * the input. No call can be broken off; the longest are told in README.md, "Speed".
  *
  * A caller owes that
  * - none of the four pointers is null, not even for 0 bytes;
@@ -62,7 +70,7 @@ enum {
  * the input, room_len bytes, and what the command takes: a table of sums has 23 MB for 52 cards and 28 MB for 54; deal,
  * certify and audit take one, multi two, meter two and at most 16 MB more, replay one for each column of the pay table,
  * sessions as many and its logs, which are somewhat longer than the CSV text, play one more than that and its log,
- * compile one and at most 93 MB more, check and tables none.
+ * compile one and at most 93 MB more, cross and hits two, holds, check and tables none.
  */
 uint8_t vpoker_answer(const uint8_t *words, size_t words_len, const uint8_t *input, size_t input_len, uint8_t *room,
                       size_t room_len, size_t *taken);
