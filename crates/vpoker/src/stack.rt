@@ -1,6 +1,6 @@
 //! The stack that a run needs, touched before anything is asked for or read.
 
-ghost use Rattle.std.specs.Prelude.{◌≡◌, true, slice_index_or};
+ghost use Rattle.std.specs.Prelude.{◌≡◌, true, slice_index};
 
 /// How much stack a run may need below `main`, in bytes. `bench/stack` measures what it does need.
 const STACK: usize = 400 * 1024;
@@ -19,7 +19,7 @@ pub(crate) fn has_stack() -> bool
 /// The first byte of a room. It is not inlined, so that the room has to be made.
 #[inline(never)]
 fn first_byte(room: &[u8; STACK]) -> u8
-    ensures { result ≡ slice_index_or 0 room.now 0 }
+    ensures { result ≡ slice_index room.now 0 }
 {
     room[0]
 }
