@@ -4,6 +4,7 @@ from __future__ import annotations
 import sys
 from dataclasses import dataclass
 from pathlib import Path
+from typing import Callable
 
 from .errors import Place, Unsuitable
 
@@ -61,14 +62,20 @@ class Source:
             found.append((name, start, len(lines)))
         return found
 
-    def only(self, *names: str) -> Source:
-        """The file with the lines of all other sections made empty, so that line numbers stay those of the file."""
-        keep = [(first, last) for name, first, last in self.sections() if name in names]
-        kept = [
-            line if any(first <= number <= last for first, last in keep) else ""
-            for number, line in enumerate(self.lines, 1)
-        ]
-        return Source(self.name, "".join(line + "\n" for line in kept).encode())
+    def only(self, name: str) -> Source:
+        """The file with all lines outside the sections of that name made empty: line numbers stay those of the file."""
+        return self._blanked(lambda section: section != name)
+
+    def without(self, *names: str) -> Source:
+        """The file with the lines of the sections of these names made empty: line numbers stay those of the file."""
+        return self._blanked(lambda section: section in names)
+
+    def _blanked(self, goes: Callable[[str], bool]) -> Source:
+        lines = self.lines
+        for name, first, last in self.sections():
+            if goes(name):
+                lines[first - 1:last] = [""] * (last - first + 1)
+        return Source(self.name, "".join(line + "\n" for line in lines).encode())
 
     def has(self, name: str) -> bool:
         """Whether it has a section of that first word."""
