@@ -8,7 +8,7 @@ import click
 
 from .. import __version__
 from ..errors import VpokerError
-from . import card, payments, sheet
+from . import card, check, payments, sheet
 
 HELP = """Figures of five-card draw video poker, by the proved program vpoker.
 
@@ -38,7 +38,7 @@ def vp() -> None:
     pass
 
 
-for command in (sheet.par, sheet.hand, card.card, card.compile_command, sheet.compare, payments.vary, payments.meter, payments.break_even, payments.ruin):
+for command in (sheet.par, sheet.hand, card.card, card.compile_command, sheet.compare, payments.vary, payments.meter, payments.break_even, payments.ruin, check.check):
     vp.add_command(command)
 
 
