@@ -148,7 +148,7 @@ def first_finding(kept: Kept) -> Finding | None:
     """Of all findings the one of the least line, as one check of all lines would say it."""
     found = [said for said in map(read_check, (answer for answer in kept.answers.values() if answer.status == 1))
              if isinstance(said, Finding)]
-    return min(found, key=lambda finding: finding.line, default=None)
+    return min(found, key=lambda finding: finding.line) if found else None
 
 
 def walked(parts: list[tuple[int, int]], kept: Kept) -> int:

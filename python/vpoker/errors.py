@@ -2,6 +2,10 @@
 from __future__ import annotations
 
 from dataclasses import dataclass
+from typing import TYPE_CHECKING, Sequence
+
+if TYPE_CHECKING:
+    from .texts import Input
 
 
 @dataclass(frozen=True)
@@ -41,14 +45,16 @@ class Refused(VpokerError):
     """The input is not in the language of the command, or does not fit it.
 
     `line` is the line of the joined input, counted from 1; `place` the line of the file that it came from.
-    `record` is the number of the CSV record instead, for `sessions`.
+    `record` is the number of the CSV record instead, for `sessions`. `words` and `given` are the run that was refused.
     """
 
     status = 3
 
-    def __init__(self, message: str, line: int | None = None, place: Place | None = None, record: int | None = None):
+    def __init__(self, message: str, line: int | None = None, place: Place | None = None, record: int | None = None,
+                 words: Sequence[str] = (), given: Input | None = None):
         super().__init__(message)
         self.line, self.place, self.record = line, place, record
+        self.words, self.given = list(words), given
 
 
 class Unsuitable(VpokerError):

@@ -75,22 +75,22 @@ def raise_failure(answer: Answer, words: list[str], given: Input | None) -> None
     if answer.status == 2:
         raise UnknownCommand(f"`{command}` is no command of this program, or a number is out of range")
     if answer.status == 3:
-        raise refusal(answer, command, given)
+        raise refusal(answer, words, given)
     if answer.status < 0:
         raise RunFailed(f"`{command}` was ended by signal {-answer.status}", 9)
     raise RunFailed(f"`{command}`: {FAILURES.get(answer.status, f'it ended with status {answer.status}')}", answer.status)
 
 
-def refusal(answer: Answer, command: str, given: Input | None) -> Refused:
+def refusal(answer: Answer, words: list[str], given: Input | None) -> Refused:
     """The exception for `refused LINE` or `refused record K`."""
-    words = answer.words
-    if words[:2] == ["refused", "record"] and len(words) == 3:
-        return Refused(f"`{command}` refused record {words[2]}", record=int(words[2]))
-    if words[:1] != ["refused"] or len(words) != 2 or not words[1].isdigit():
+    said, command = answer.words, "vpoker " + " ".join(words)
+    if said[:2] == ["refused", "record"] and len(said) == 3:
+        return Refused(f"`{command}` refused record {said[2]}", record=int(said[2]), words=words, given=given)
+    if said[:1] != ["refused"] or len(said) != 2 or not said[1].isdigit():
         raise UnexpectedOutput(f"`{command}` ended with status 3 and printed {answer.text[:60]!r}")
-    line = int(words[1])
+    line = int(said[1])
     place = given.place(line) if given else None
-    return Refused(f"`{command}` refused {place or f'line {line}'}", line=line, place=place)
+    return Refused(f"`{command}` refused {place or f'line {line}'}", line=line, place=place, words=words, given=given)
 
 
 def find_program() -> Program:

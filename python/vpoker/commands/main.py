@@ -8,7 +8,8 @@ import click
 
 from .. import __version__
 from ..errors import VpokerError
-from . import card, check, payments, sheet
+from ..why import explained
+from . import card, check, log, payments, sheet
 
 HELP = """Figures of five-card draw video poker, by the proved program vpoker.
 
@@ -38,7 +39,7 @@ def vp() -> None:
     pass
 
 
-for command in (sheet.par, sheet.hand, card.card, card.compile_command, sheet.compare, payments.vary, payments.meter, payments.break_even, payments.ruin, check.check):
+for command in (sheet.par, sheet.hand, card.card, card.compile_command, sheet.compare, payments.vary, payments.meter, payments.break_even, payments.ruin, check.check, log.replay, log.why):
     vp.add_command(command)
 
 
@@ -48,7 +49,7 @@ def main() -> None:
         vp.main(standalone_mode=False)
         sys.stdout.flush()
     except VpokerError as fault:
-        click.echo(f"vp: {fault}", err=True)
+        click.echo(f"vp: {explained(fault)}", err=True)
         sys.exit(fault.status)
     except click.ClickException as fault:
         fault.show()
