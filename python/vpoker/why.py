@@ -427,6 +427,8 @@ def cert_line(words: list[str]) -> None:
         number(words, 1, 0, 2**64 - 1, "the sum")
         if at(words, 2, "`/`") != "/":
             raise Wrong(2, "`/` stands between the two numbers, with spaces around")
+        number(words, 3, 0, 2**64 - 1, "the denominator")
+        nothing_behind(words, 4)
     else:
         raise Wrong(0, "`class ..`, `return SUM / DENOMINATOR` or `end` is wanted here")
 
