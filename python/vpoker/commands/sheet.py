@@ -110,22 +110,22 @@ def hand(table: str, cards: tuple[str, ...], coins: int | None, form: str, as_js
     known, given = PayTable.read(table), Hand.of(" ".join(cards))
     best = runs.deal(known, given, coins)
     try:
-        report = holds_report(known, runs.holds(known, given, coins), coins)
+        report = holds_report(known, runs.holds(known, given, coins), coins, form in ("csv", "html"))
     except UnknownCommand:
         report = best_report(known, best, coins)
     options.finish(report, form, as_json)
 
 
-def holds_report(table: PayTable, found: Holds, coins: int | None) -> Report:
-    """The 32 holds, and the draws of each by pay line."""
+def holds_report(table: PayTable, found: Holds, coins: int | None, columns: bool) -> Report:
+    """The 32 holds, and the draws of each by pay line: in a column each, or as one text that a terminal has room for."""
     coin, best = table.coin(coins), found.holds[0].value
-    used = [line for line in table.lines if any(hold.draws[line.name] for hold in found.holds)]
-    rows: list[list[str | int]] = [
-        [" ".join(hold.cards) or "nothing", decimal(hold.value), percent(hold.value / coin, 2), decimal(best - hold.value),
-         hold.total, *(hold.draws[line.name] or "" for line in used), hold.none]
-        for hold in found.holds
-    ]
-    head = ["hold", "worth, coins", "% of the bet", "less than best", "draws", *(line.name for line in used), "(nothing)"]
+    used = [line.name for line in table.lines if any(hold.draws[line.name] for hold in found.holds)]
+    rows: list[list[str | int]] = []
+    for hold in found.holds:
+        row: list[str | int] = [" ".join(hold.cards) or "nothing", decimal(hold.value), decimal(best - hold.value), hold.total]
+        paid = ", ".join(f"{name} {hold.draws[name]}" for name in used if hold.draws[name])
+        rows.append([*row, *(hold.draws[name] for name in used), hold.none] if columns else [*row, paid or "nothing"])
+    head = ["hold", "worth, coins", "less than best", "draws", *([*used, "(nothing)"] if columns else ["draws that pay"])]
     data = {"cards": list(found.cards), "coins": coin, "ties": found.ties, "holds": [
         {"mask": hold.mask, "cards": list(hold.cards), "value": exact(hold.value), "draws": hold.draws, "nothing": hold.none}
         for hold in found.holds]}
