@@ -44,7 +44,7 @@ def rows(text: str) -> list[list[str]]:
 
 def test_help_tells_every_command_with_an_example(program):
     text = vp("--help")
-    for name in ("par", "hand", "card", "compile", "compare", "vary", "meter", "break-even", "ruin", "check", "replay", "why"):
+    for name in ("par", "hand", "card", "compile", "compare", "cross", "vary", "meter", "break-even", "ruin", "check", "replay", "why"):
         assert f"\n  {name} " in text and f"\n  vp {name} " in text
         assert "Example" in vp(name, "--help")
 
@@ -86,6 +86,13 @@ def test_hand_shows_all_holds(program):
 def test_compare(program):
     table = rows(vp("compare", JACKS, "bonus-8-5", EXAMPLES / "deuces-nsud.txt", "--format", "csv"))
     assert [row[2] for row in table[1:]] == ["99.5439", "99.1660", "99.7283"]
+
+
+def test_cross(program):
+    data = as_json("cross", JACKS, "bonus-8-5")
+    assert exact(data["loss"]) == Fraction(7698787080, 99666152586000) and data["worst"]["best"] == ["Tc", "Jc", "Ac"]
+    assert "0.00772 %" in vp("cross", JACKS, "bonus-8-5")
+    assert "different decks" in vp("cross", JACKS, "joker-kings", status=3)
 
 
 def test_vary(program):
@@ -212,6 +219,7 @@ def test_a_stopped_check_goes_on(certificate):
     until = time.monotonic() + 120
     while time.monotonic() < until and not (kept.exists() and kept.read_text().count("\n") > 2):
         time.sleep(0.2)
+    assert "another check" in vp("check", copy, status=2)
     run.send_signal(signal.SIGINT)
     run.communicate(timeout=60)
     assert run.returncode == 130
@@ -341,3 +349,30 @@ def test_windows_line_ends(program, tmp_path):
 def test_python_minus_m(program):
     done = subprocess.run([sys.executable, "-m", "vpoker", "--version"], cwd=Path(VP[1]).parent, capture_output=True, check=True)
     assert vpoker.__version__ in done.stdout.decode() and os.environ
+
+
+STAND_IN = """#!/bin/sh
+# answers as a program that finds a small certificate true
+case "$1" in
+    certify) cat "$(dirname "$0")/small.cert" ;;
+    check) cat > /dev/null
+        count=$3; last=$((250 - $2 + 1)); [ "$count" -gt "$last" ] && count=$last
+        echo "checked 250 $count"; echo "return 1 / 2" ;;
+esac
+"""
+
+
+def test_check_of_all_lines_of_a_stand_in(program, certificate, tmp_path, monkeypatch):
+    """The way to the verdict `true`, with a stand-in for the program that is quick: parts, counts, report."""
+    lines = certificate.read_bytes().splitlines(keepends=True)
+    small = tmp_path / "small.cert"
+    small.write_bytes(b"".join(lines[:15 + 250] + lines[-2:]))
+    stand_in = tmp_path / "vpoker"
+    stand_in.write_text(STAND_IN)
+    stand_in.chmod(0o755)
+    monkeypatch.setenv("VPOKER", str(stand_in))
+    data = as_json("check", small)
+    assert (data["true"], data["enumerated"], data["classes"], data["same_as_certify"]) == (True, 250, 250, True)
+    kept = (tmp_path / "small.cert.vp-check").read_text().splitlines()
+    assert [json.loads(line)["count"] for line in kept[1:]].count(100) == 2 and len(kept) == 4
+    assert "were enumerated by `vpoker check`, and no rule is broken" in vp("check", small)

@@ -219,14 +219,26 @@ class Compiled:
 
 
 @dataclass(frozen=True)
+class Worst:
+    """The class on which another game's play costs most: the mask that is held, the best one, and by how many coins that is
+    worth more for each deal."""
+
+    cards: tuple[str, ...]
+    mask: int
+    best: int
+    cost: Fraction
+
+
+@dataclass(frozen=True)
 class Cross:
-    """What one table's best play returns on another, and how often it errs there."""
+    """What one table's best play returns on another, in how many classes and deals it errs there, and where most."""
 
     optimum: Fraction
     cross: Fraction
     loss: Fraction
     classes: int
     deals: int
+    worst: Worst | None
 
 
 @dataclass(frozen=True)

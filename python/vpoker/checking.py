@@ -1,6 +1,7 @@
 """A certificate checked on many class lines: the parts, what is kept of them, and the verdict."""
 from __future__ import annotations
 
+import fcntl
 import hashlib
 import json
 import random
@@ -9,7 +10,7 @@ from pathlib import Path
 from typing import IO, Any, Iterator
 
 from .answers import Checked, Finding
-from .errors import Unsuitable
+from .errors import UnexpectedOutput, Unsuitable
 from .program import Answer, Program, raise_failure
 from .runs import read_check
 from .tables import PayTable
@@ -42,10 +43,13 @@ class Text:
     @staticmethod
     def read(source: Source, program: Program) -> Text:
         """The certificate of a file. `Refused`, by the program's word, if it is none."""
-        raise_failure(program.answer(["check", "1", "0"], source.data), ["check", "1", "0"], Input((source,)))
+        answer = program.run(["check", "1", "0"], Input((source,)))
         rows = [(number, words_of(line)) for number, line in enumerate(source.lines, 1)]
         coin = next(int(words[1]) for _, words in rows if words[:1] == ["cert"])
         classes = tuple(number for number, words in rows if words[:1] == ["class"])
+        said = read_check(answer)
+        if isinstance(said, Checked) and said.classes != len(classes):
+            raise UnexpectedOutput(f"the program counts {said.classes} class lines, where {len(classes)} are")
         return Text(source, PayTable.of_source(source.without("cert")), coin, classes)
 
     def difference(self, program: Program) -> tuple[int, str | None, str | None] | None:
@@ -102,9 +106,13 @@ class Kept:
     def open(self) -> IO[str]:
         """The file, with what is known in it, to be written on."""
         try:
-            file = self.path.open("w")
+            file = self.path.open("a")
+            fcntl.flock(file, fcntl.LOCK_EX | fcntl.LOCK_NB)
+        except BlockingIOError as fault:
+            raise Unsuitable(f"another check of this certificate is at work on {self.path}") from fault
         except OSError as fault:
             raise Unsuitable(f"{self.path}: {fault.strerror}") from fault
+        file.truncate(0)
         for row in [self.head, *(self.row(part, answer) for part, answer in self.answers.items())]:
             file.write(json.dumps(row) + "\n")
         file.flush()

@@ -214,7 +214,10 @@ def cross(first: PayTable, second: PayTable, coin: int | None = None, program: P
     rows = _rows(_run(program, ["cross", first.coin(coin)], first.source, second.source))
     said = {row[0]: row[1:] for row in rows}
     classes, deals = map(int, said["differ"])
-    return a.Cross(_fraction(said["optimum"]), _fraction(said["cross"]), _fraction(said["loss"]), classes, deals)
+    row, worst = said.get("worst"), None
+    if row:
+        worst = a.Worst(tuple(row[:5]), int(row[5]), int(row[6]), Fraction(int(row[7]), DECKS[second.deck][1]))
+    return a.Cross(_fraction(said["optimum"]), _fraction(said["cross"]), _fraction(said["loss"]), classes, deals, worst)
 
 
 @_reads

@@ -39,7 +39,7 @@ def vp() -> None:
     pass
 
 
-for command in (sheet.par, sheet.hand, card.card, card.compile_command, sheet.compare, payments.vary, payments.meter, payments.break_even, payments.ruin, check.check, log.replay, log.why):
+for command in (sheet.par, sheet.hand, card.card, card.compile_command, sheet.compare, sheet.cross, payments.vary, payments.meter, payments.break_even, payments.ruin, check.check, log.replay, log.why):
     vp.add_command(command)
 
 

@@ -167,3 +167,30 @@ def compare(tables: tuple[str, ...], coins: int | None, form: str, as_json: bool
         data.append(par_data(known, hits, moments, None))
     head = ["table", "coins", "RTP %", "hit frequency %", "variance", "standard deviation", "rarest line"]
     options.finish(Report("", [], [Grid(head, rows)], [], data), form, as_json)
+
+
+@click.command()
+@click.argument("table")
+@click.argument("other")
+@options.coins
+@options.output
+def cross(table: str, other: str, coins: int | None, form: str, as_json: bool) -> None:
+    """What the best play of TABLE costs on the machine OTHER.
+
+    \b
+    Example:
+      vp cross jacks-9-6 bonus-8-5
+    """
+    first, second = PayTable.read(table), PayTable.read(other)
+    found, coin = runs.cross(first, second, coins), first.coin(coins)
+    facts = [("best play there returns", percent(found.optimum, 5) + " %"), ("the other play returns", percent(found.cross, 5) + " %"),
+             ("and loses", percent(found.loss, 5) + " %"), ("it errs in", f"{found.classes} classes, {found.deals} deals")]
+    data: dict[str, Any] = {"table": first.name, "other": second.name, "coins": coin, "optimum": exact(found.optimum),
+                            "cross": exact(found.cross), "loss": exact(found.loss, 10), "classes": found.classes, "deals": found.deals}
+    if found.worst:
+        worst = found.worst
+        facts.append(("at worst with", f"{' '.join(worst.cards)}: it holds {hold_text(worst.cards, worst.mask)}; "
+                      f"{hold_text(worst.cards, worst.best)} is worth {decimal(worst.cost)} coins more"))
+        data["worst"] = {"cards": list(worst.cards), "holds": hold_text(worst.cards, worst.mask).split(),
+                         "best": hold_text(worst.cards, worst.best).split(), "cost": exact(worst.cost)}
+    options.finish(Report(f"the best play of {first.name} on {second.name}, a bet of {coin}", facts, [], [], data), form, as_json)
