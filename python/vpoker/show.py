@@ -5,6 +5,7 @@ import csv
 import html
 import io
 import json
+import os
 import sys
 from dataclasses import dataclass, field
 from fractions import Fraction
@@ -62,10 +63,16 @@ class Report:
 
     def show(self, form: str) -> None:
         """Writes it to standard output in one of `FORMATS`."""
-        if form == "text":
-            write_text(self)
-        else:
-            sys.stdout.write({"csv": as_csv, "json": as_json, "html": as_html}[form](self))
+        try:
+            if form == "text":
+                write_text(self)
+            else:
+                sys.stdout.write({"csv": as_csv, "json": as_json, "html": as_html}[form](self))
+            sys.stdout.flush()
+        except BrokenPipeError:
+            # click would end with 1, which is a finding here
+            os.dup2(os.open(os.devnull, os.O_WRONLY), 1)
+            sys.exit(141)
 
 
 def number_column(grid: Grid, place: int) -> bool:
