@@ -1,0 +1,4 @@
+"""`python3 -m vpoker` is `vp`."""
+from .commands.main import main
+
+main()

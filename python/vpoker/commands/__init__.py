@@ -1,0 +1,1 @@
+"""The commands of `vp`, one file a group."""
