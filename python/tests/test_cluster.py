@@ -16,6 +16,7 @@ from test_commands import VP, as_json
 import vpoker
 
 distributed = pytest.importorskip("distributed", reason="dask.distributed is missing: Debian's python3-distributed")
+pytestmark = pytest.mark.slow
 PACKAGE = Path(VP[1]).parent
 
 

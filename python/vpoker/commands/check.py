@@ -41,7 +41,7 @@ def check(certificate: str, table: str | None, sample: int | None, seed: int, fr
           form: str, as_json: bool) -> None:
     """Check CERTIFICATE: against `certify`, and by enumerating all draws of all class lines.
 
-    All lines take about 45 minutes of processor time, shared out over all cores. A check that is stopped goes on when it is
+    All lines take a minute or two of processor time, shared out over all cores. A check that is stopped goes on when it is
     started again: what is done is kept in CERTIFICATE.vp-check.
 
     \b
